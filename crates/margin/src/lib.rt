@@ -1,0 +1,5 @@
+//! What a margin keeper means, its laws, and what follows from them for every keeper.
+
+pub mod deposit;
+pub mod keeper;
+pub mod refusal;

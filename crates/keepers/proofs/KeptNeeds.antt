@@ -18,12 +18,12 @@ use Rattle.terms.proofs.Tables.{put-cases, put-here, put-there}
 use Rattle.margin.specs.Sheets.{Sheet, Totals, no-lots, raised, fresh-sheet, can-set-factor, with-factor, after-set-factor, can-record, recorded, after-record, need-of, need-with}
 use Rattle.margin.specs.declared.refusal.KeeperRefusal.{KeeperRefusal}
 use Rattle.margin.specs.Laws.{Lawful}
-use Rattle.keepers.specs.declared.lots.LotsTable.{LotsTable}
-use Rattle.keepers.specs.Charges.{summed, amount-at, standard-amount}
-use Rattle.keepers.specs.Reads.{sheet-of}
-use Rattle.keepers.proofs.Amounts.{standard-none}
-use Rattle.keepers.proofs.Sheets.{sheet-lawful}
-use Rattle.keepers.proofs.Sums.{summed-none}
+use Rattle.positions.specs.declared.lots.LotsTable.{LotsTable}
+use Rattle.positions.specs.Charges.{summed, amount-at, standard-amount}
+use Rattle.positions.specs.Reads.{sheet-of}
+use Rattle.positions.proofs.Amounts.{standard-none}
+use Rattle.positions.proofs.Sheets.{sheet-lawful}
+use Rattle.positions.proofs.Sums.{summed-none}
 
 pub fresh-need : {reach : ℕ} (table : LotsTable reach) → sheet-of table ≡ fresh-sheet → (m : ℕ) → need-of (summed standard-amount) (sheet-of table) m ≡ 0
 fresh-need table fresh m =

@@ -1,5 +1,1 @@
-pub mod Amounts
-pub mod Sums
-pub mod Sheets
-pub mod Positions
 pub mod KeptNeeds

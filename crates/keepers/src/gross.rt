@@ -1,10 +1,10 @@
 ghost use mathlib.Core.Path.{_≡_};
 ghost use Rattle.margin.specs.Sheets.{fresh-sheet};
-ghost use Rattle.keepers.specs.Charges.{summed, gross-amount};
-ghost use Rattle.keepers.specs.Reads.{sheet-of};
-use crate::lots::LotsTable;
-use crate::tariff::Gross;
-use crate::tariff::GrossTariff;
+ghost use Rattle.positions.specs.Charges.{summed, gross-amount};
+ghost use Rattle.positions.specs.Reads.{sheet-of};
+use positions::lots::LotsTable;
+use positions::tariff::Gross;
+use positions::tariff::GrossTariff;
 use margin::keeper::Keeper;
 use margin::refusal::KeeperRefusal;
 use terms::Side;
@@ -69,6 +69,6 @@ pub impl Keeper for GrossKeeper as GrossKeeping {
         lots: u32,
     ) -> Result<u64, KeeperRefusal> {
         self.table
-            .need_with(&Gross, self.need(member), member, instrument, side, lots)
+            .need_with(&Gross, member, instrument, side, lots)
     }
 }

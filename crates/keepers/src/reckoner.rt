@@ -1,10 +1,10 @@
 ghost use mathlib.Core.Path.{_≡_};
 ghost use Rattle.margin.specs.Sheets.{fresh-sheet};
-ghost use Rattle.keepers.specs.Charges.{summed, standard-amount};
-ghost use Rattle.keepers.specs.Reads.{sheet-of};
-use crate::lots::LotsTable;
-use crate::tariff::Standard;
-use crate::tariff::StandardTariff;
+ghost use Rattle.positions.specs.Charges.{summed, standard-amount};
+ghost use Rattle.positions.specs.Reads.{sheet-of};
+use positions::lots::LotsTable;
+use positions::tariff::Standard;
+use positions::tariff::StandardTariff;
 use margin::keeper::Keeper;
 use margin::refusal::KeeperRefusal;
 use terms::Side;
@@ -68,6 +68,6 @@ pub impl Keeper for Reckoner as ReckonerKeeper {
         side: Side,
         lots: u32,
     ) -> Result<u64, KeeperRefusal> {
-        self.table.need_with(&Standard, self.need(member), member, instrument, side, lots)
+        self.table.need_with(&Standard, member, instrument, side, lots)
     }
 }

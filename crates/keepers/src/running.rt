@@ -2,12 +2,13 @@ ghost use mathlib.Core.Path.{_≡_};
 ghost use Prim.Native.Nat.{ℕ};
 ghost use lib.ListN.{getD, length};
 ghost use Rattle.margin.specs.Sheets.{fresh-sheet, need-of};
-ghost use Rattle.keepers.specs.Charges.{summed, standard-amount};
-ghost use Rattle.keepers.specs.Reads.{sheet-of};
-use crate::lots::LotsTable;
-use crate::lots::MEMBERS;
-use crate::tariff::Standard;
-use crate::tariff::StandardTariff;
+ghost use Rattle.positions.specs.Charges.{summed, standard-amount};
+ghost use Rattle.positions.specs.Reads.{sheet-of};
+use positions::lots::AmountChange;
+use positions::lots::LotsTable;
+use positions::lots::MEMBERS;
+use positions::tariff::Standard;
+use positions::tariff::StandardTariff;
 use margin::keeper::Keeper;
 use margin::refusal::KeeperRefusal;
 use terms::Side;
@@ -81,6 +82,7 @@ pub impl Keeper for RunningKeeper as RunningKeeping {
         side: Side,
         lots: u32,
     ) -> Result<u64, KeeperRefusal> {
-        self.table.need_with(&Standard, self.need(member), member, instrument, side, lots)
+        let AmountChange { before, after } = self.table.amounts_with(&Standard, member, instrument, side, lots)?;
+        Ok(self.need(member) - before + after)
     }
 }

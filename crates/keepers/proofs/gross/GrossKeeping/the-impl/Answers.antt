@@ -1,7 +1,7 @@
-use Rattle.keepers.specs.Charges.{gross-amount}
-use Rattle.keepers.proofs.Amounts.{gross-none, gross-rise}
-use Rattle.keepers.proofs.Sums.{summed-none, summed-rise}
-use Rattle.keepers.proofs.Sheets.{sheet-lawful}
+use Rattle.positions.specs.Charges.{gross-amount}
+use Rattle.positions.proofs.Amounts.{gross-none, gross-rise}
+use Rattle.positions.proofs.Sums.{summed-none, summed-rise}
+use Rattle.positions.proofs.Sheets.{sheet-lawful}
 use Rattle.keepers.proofs.gross.GrossKeeping.the-impl.Needs as need
 
 pub sheet-is-lawful-law : need.sheet-is-lawful-law

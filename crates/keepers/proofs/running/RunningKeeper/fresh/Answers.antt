@@ -1,5 +1,5 @@
 use mathlib.Core.Path.{_≡_, sym, ap, _∙_}
-use Rattle.keepers.proofs.Sheets.{zero-at}
+use Rattle.positions.proofs.Sheets.{zero-at}
 use Rattle.keepers.proofs.KeptNeeds.{fresh-need}
 use Rattle.keepers.proofs.running.RunningKeeper.fresh.Needs as need
 

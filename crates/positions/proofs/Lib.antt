@@ -1,0 +1,5 @@
+pub mod Amounts
+pub mod Sums
+pub mod Sheets
+pub mod Positions
+pub mod Moves

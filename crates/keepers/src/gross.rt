@@ -2,11 +2,11 @@ ghost use mathlib.Core.Path.{_≡_};
 ghost use Rattle.margin.specs.Sheets.{fresh-sheet};
 ghost use Rattle.positions.specs.Charges.{summed, gross-amount};
 ghost use Rattle.positions.specs.Reads.{sheet-of};
+use margin::keeper::Keeper;
+use margin::refusal::KeeperRefusal;
 use positions::lots::LotsTable;
 use positions::tariff::Gross;
 use positions::tariff::GrossTariff;
-use margin::keeper::Keeper;
-use margin::refusal::KeeperRefusal;
 use terms::Side;
 
 /// The gross keeper: lots bought are not offset against lots sold.
@@ -68,7 +68,6 @@ pub impl Keeper for GrossKeeper as GrossKeeping {
         side: Side,
         lots: u32,
     ) -> Result<u64, KeeperRefusal> {
-        self.table
-            .need_with(&Gross, member, instrument, side, lots)
+        self.table.need_with(&Gross, member, instrument, side, lots)
     }
 }

@@ -2,11 +2,11 @@ ghost use mathlib.Core.Path.{_≡_};
 ghost use Rattle.margin.specs.Sheets.{fresh-sheet};
 ghost use Rattle.positions.specs.Charges.{summed, standard-amount};
 ghost use Rattle.positions.specs.Reads.{sheet-of};
+use margin::keeper::Keeper;
+use margin::refusal::KeeperRefusal;
 use positions::lots::LotsTable;
 use positions::tariff::Standard;
 use positions::tariff::StandardTariff;
-use margin::keeper::Keeper;
-use margin::refusal::KeeperRefusal;
 use terms::Side;
 
 /// The reckoner: the standard charge, added up over the instruments when it is asked.
@@ -68,6 +68,7 @@ pub impl Keeper for Reckoner as ReckonerKeeper {
         side: Side,
         lots: u32,
     ) -> Result<u64, KeeperRefusal> {
-        self.table.need_with(&Standard, member, instrument, side, lots)
+        self.table
+            .need_with(&Standard, member, instrument, side, lots)
     }
 }

@@ -4,13 +4,13 @@ ghost use lib.ListN.{getD, length};
 ghost use Rattle.margin.specs.Sheets.{fresh-sheet, need-of};
 ghost use Rattle.positions.specs.Charges.{summed, standard-amount};
 ghost use Rattle.positions.specs.Reads.{sheet-of};
+use margin::keeper::Keeper;
+use margin::refusal::KeeperRefusal;
 use positions::lots::AmountChange;
 use positions::lots::LotsTable;
 use positions::lots::MEMBERS;
 use positions::tariff::Standard;
 use positions::tariff::StandardTariff;
-use margin::keeper::Keeper;
-use margin::refusal::KeeperRefusal;
 use terms::Side;
 
 /// The running keeper: the standard charge, each member's kept beside the lots and brought up to date at each record.
@@ -82,7 +82,8 @@ pub impl Keeper for RunningKeeper as RunningKeeping {
         side: Side,
         lots: u32,
     ) -> Result<u64, KeeperRefusal> {
-        let AmountChange { before, after } = self.table.amounts_with(&Standard, member, instrument, side, lots)?;
+        let AmountChange { before, after } = self.table
+            .amounts_with(&Standard, member, instrument, side, lots)?;
         Ok(self.need(member) - before + after)
     }
 }

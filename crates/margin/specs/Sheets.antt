@@ -7,6 +7,7 @@ use Rattle.std.specs.declared.option.Option.the-variants.{Some, None}
 use Rattle.std.specs.declared.result.Result.{Result}
 use Rattle.std.specs.declared.result.Result.the-variants.{Ok, Err}
 use Rattle.terms.specs.declared.Side.{Side}
+use Rattle.terms.specs.declared.Side.the-variants.{Bid, Offer}
 use Rattle.terms.specs.Sides.{same-side}
 use Rattle.terms.specs.Tables.{put}
 use Rattle.margin.specs.declared.refusal.KeeperRefusal.{KeeperRefusal}
@@ -59,6 +60,18 @@ recorded sheet member instrument side lots =
 abbrev pub after-record : ℕ → Sheet → ℕ → ℕ → Side → ℕ → Sheet
 after-record reach sheet member instrument side lots =
     cond (can-record reach sheet member instrument side lots) (recorded sheet member instrument side lots) sheet
+
+-- A trade: the lots are bought by one member and sold by another, on both sides or on neither.
+abbrev pub can-record-trade : ℕ → Sheet → ℕ → ℕ → ℕ → ℕ → Bool
+can-record-trade reach sheet buyer seller instrument lots =
+    can-record reach sheet buyer instrument Bid lots && can-record reach sheet seller instrument Offer lots
+
+abbrev pub traded : Sheet → ℕ → ℕ → ℕ → ℕ → Sheet
+traded sheet buyer seller instrument lots = recorded (recorded sheet buyer instrument Bid lots) seller instrument Offer lots
+
+abbrev pub after-trade : ℕ → Sheet → ℕ → ℕ → ℕ → ℕ → Sheet
+after-trade reach sheet buyer seller instrument lots =
+    cond (can-record-trade reach sheet buyer seller instrument lots) (traded sheet buyer seller instrument lots) sheet
 
 -- Need: the charge on the member's totals, 0 above the last member.
 abbrev pub need-of : Charge → Sheet → ℕ → ℕ

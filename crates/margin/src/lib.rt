@@ -3,3 +3,4 @@
 pub mod deposit;
 pub mod keeper;
 pub mod refusal;
+pub mod trade;

@@ -22,7 +22,7 @@ use Rattle.positions.proofs.Sums.{most, summed-raised, amount-bounded, amount-
 module _ (amount : Amount) (none : (factor : ℕ) → amount factor 0 0 ≡ 0) (rise : Amount-rise-bounded amount) (reach : ℕ) (narrow : reach < 2 ^ 32) (sheet : Sheet) (lawful : Lawful reach sheet) where
   pub amount-at-bounded : (m i : ℕ) → amount-at amount (sheet .factor) (sheet .held m) i ≤ most
   amount-at-bounded m i =
-    amount-bounded amount none rise (sheet .factor i) (sheet .held m Bid i) (sheet .held m Offer i)
+      amount-bounded amount none rise (sheet .factor i) (sheet .held m Bid i) (sheet .held m Offer i)
       (lawful .factor-in-range i) (omega (arith, lawful .total-in-reach m Bid i)) (omega (arith, lawful .total-in-reach m Offer i))
 
   pub charge-bounded : (m : ℕ) → summed amount (sheet .factor) (sheet .held m) ≤ most * 16
@@ -39,20 +39,22 @@ module _ (amount : Amount) (none : (factor : ℕ) → amount factor 0 0 ≡ 0) (
     where
       accepted : can-record reach sheet m i s q ≡ true → Asked m i s q change
       accepted yes-it-can =
-        let answer : _≡_ {A = Result AmountChange KeeperRefusal} (Ok change) (Ok (record { before = amount-at amount (sheet .factor) (sheet .held m) i; after = amount-at amount (sheet .factor) (raised (sheet .held m) s i q) i })) = e ∙ cond-true _ _ _ yes-it-can in
-        let same : change ≡ record { before = amount-at amount (sheet .factor) (sheet .held m) i; after = amount-at amount (sheet .factor) (raised (sheet .held m) s i q) i } = cc in
-        record { can = yes-it-can; before-is = ap (λ (z : AmountChange). z .before) same; after-is = ap (λ (z : AmountChange). z .after) same }
+          let answer : _≡_ {A = Result AmountChange KeeperRefusal} (Ok change) (Ok (record { before = amount-at amount (sheet .factor) (sheet .held m) i; after = amount-at amount (sheet .factor) (raised (sheet .held m) s i q) i })) = e ∙ cond-true _ _ _ yes-it-can in
+          let same : change ≡ record { before = amount-at amount (sheet .factor) (sheet .held m) i; after = amount-at amount (sheet .factor) (raised (sheet .held m) s i q) i } = cc in
+          record { can = yes-it-can; before-is = ap (λ (z : AmountChange). z .before) same; after-is = ap (λ (z : AmountChange). z .after) same }
+
       refused : can-record reach sheet m i s q ≡ false → Asked m i s q change
       refused cannot =
-        let never : _≡_ {A = Result AmountChange KeeperRefusal} (Ok change) (Err (record {})) = e ∙ cond-false _ _ _ cannot in
-        let zero-is-one : _≡_ {A = ℕ} 0 1 = cc in
-        absurd (omega arith)
+          let never : _≡_ {A = Result AmountChange KeeperRefusal} (Ok change) (Err (record {})) = e ∙ cond-false _ _ _ cannot in
+          let zero-is-one : _≡_ {A = ℕ} 0 1 = cc in
+          absurd (omega arith)
 
   instrument-there : (m i : ℕ) (s : Side) (q : ℕ) → can-record reach sheet m i s q ≡ true → i < 16
   instrument-there m i s q can = ⊎-elim (λ l. l) past (cases-lt i 16)
     where
       factor : sheet .factor i ≡ 0 → ⊥
       factor = eqb-false (sheet .factor i) 0 (not-true (eqb (sheet .factor i) 0) (and-parts (not (eqb (sheet .factor i) 0)) (leb 1 q && leb (sheet .held m s i + q) reach) (and-parts (ltb m 32) (not (eqb (sheet .factor i) 0) && (leb 1 q && leb (sheet .held m s i + q) reach)) can .1) .0))
+
       past : 16 ≤ i → i < 16
       past l = absurd (factor (lawful .no-factor-past i l))
 
@@ -63,22 +65,22 @@ module _ (amount : Amount) (none : (factor : ℕ) → amount factor 0 0 ≡ 0) (
     pub answer : _≡_ {A = Result ℕ KeeperRefusal} (Ok (need - change .before + change .after)) (need-with (summed amount) reach sheet m i s q)
 
   pub need-moves : (m i : ℕ) (s : Side) (q : ℕ) (change : AmountChange) (need : ℕ) → q < 2 ^ 32
-    → Ok change ≡ amounts-with amount reach sheet m i s q → need ≡ need-of (summed amount) sheet m → Moved m i s q change need
+      → Ok change ≡ amounts-with amount reach sheet m i s q → need ≡ need-of (summed amount) sheet m → Moved m i s q change need
   need-moves m i s q change need few accepted now =
-    let told = asked m i s q change accepted in
-    let can = told .can in
-    let before-is = told .before-is in
-    let after-is = told .after-is in
-    let there = instrument-there m i s q can in
-    let member : ltb m 32 ≡ true = and-parts (ltb m 32) (not (eqb (sheet .factor i) 0) && (leb 1 q && leb (sheet .held m s i + q) reach)) can .0 in
-    let whole : need ≡ summed amount (sheet .factor) (sheet .held m) = now ∙ cond-true _ _ _ member in
-    let part = place-at-most-sum 16 (amount-at amount (sheet .factor) (sheet .held m)) i there in
-    let enough : change .before ≤ need = omega arith in
-    let bound = charge-bounded m in
-    let few-lots : q ≤ 2 ^ 32 = omega arith in
-    let worth : sheet .factor i * q ≤ 100000 * 2 ^ 32 = mul-le-mul (lawful .factor-in-range i) few-lots in
-    let grows = amount-raised amount none rise (sheet .factor) (sheet .held m) s i q in
-    let moved = summed-raised amount (sheet .factor) (sheet .held m) s i q there in
-    let new : need-of (summed amount) (recorded sheet m i s q) m ≡ summed amount (sheet .factor) (raised (sheet .held m) s i q) = cond-true _ _ _ member ∙ ap (summed amount (sheet .factor)) (put-here (sheet .held) m (raised (sheet .held m) s i q)) in
-    let sum : need - change .before + change .after ≡ need-of (summed amount) (recorded sheet m i s q) m = omega arith in
-    record { enough = enough; fits = omega arith; answer = ap Ok sum ∙ sym (cond-true _ _ _ can) }
+      let told = asked m i s q change accepted in
+      let can = told .can in
+      let before-is = told .before-is in
+      let after-is = told .after-is in
+      let there = instrument-there m i s q can in
+      let member : ltb m 32 ≡ true = and-parts (ltb m 32) (not (eqb (sheet .factor i) 0) && (leb 1 q && leb (sheet .held m s i + q) reach)) can .0 in
+      let whole : need ≡ summed amount (sheet .factor) (sheet .held m) = now ∙ cond-true _ _ _ member in
+      let part = place-at-most-sum 16 (amount-at amount (sheet .factor) (sheet .held m)) i there in
+      let enough : change .before ≤ need = omega arith in
+      let bound = charge-bounded m in
+      let few-lots : q ≤ 2 ^ 32 = omega arith in
+      let worth : sheet .factor i * q ≤ 100000 * 2 ^ 32 = mul-le-mul (lawful .factor-in-range i) few-lots in
+      let grows = amount-raised amount none rise (sheet .factor) (sheet .held m) s i q in
+      let moved = summed-raised amount (sheet .factor) (sheet .held m) s i q there in
+      let new : need-of (summed amount) (recorded sheet m i s q) m ≡ summed amount (sheet .factor) (raised (sheet .held m) s i q) = cond-true _ _ _ member ∙ ap (summed amount (sheet .factor)) (put-here (sheet .held) m (raised (sheet .held m) s i q)) in
+      let sum : need - change .before + change .after ≡ need-of (summed amount) (recorded sheet m i s q) m = omega arith in
+      record { enough = enough; fits = omega arith; answer = ap Ok sum ∙ sym (cond-true _ _ _ can) }

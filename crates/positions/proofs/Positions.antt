@@ -35,26 +35,26 @@ only-refusal (Err x) e = refl
 module _ (amount : Amount) {reach : ℕ} (xs : List (InstrumentLots reach)) (i : ℕ) (x : InstrumentLots reach) (l : i < 16) (h : i < length xs) (m : ℕ) where
   pub amount-now : (p : Position) → Is-position (getD xs i x .factor) (lots-in (getD xs i x)) m p → amount (p .factor) (p .bought) (p .sold) ≡ amount-at amount (sheet-of (table-of xs) .factor) (sheet-of (table-of xs) .held m) i
   amount-now p is =
-    let factor = factor-at xs i x l h in
-    let bought = held-at xs i x l h m Bid in
-    let sold = held-at xs i x l h m Offer in
-    cc
+      let factor = factor-at xs i x l h in
+      let bought = held-at xs i x l h m Bid in
+      let sold = held-at xs i x l h m Offer in
+      cc
 
   pub amount-with : (s : Side) (q : ℕ) (p : Position) → Is-position (getD xs i x .factor) (raised (lots-in (getD xs i x)) s m q) m p → amount (p .factor) (p .bought) (p .sold) ≡ amount-at amount (sheet-of (table-of xs) .factor) (raised (sheet-of (table-of xs) .held m) s i q) i
   amount-with s q p is =
-    let factor = factor-at xs i x l h in
-    let same = raised-at (lots-in (getD xs i x)) (sheet-of (table-of xs) .held m) s m i q (λ u. sym (held-at xs i x l h m u)) in
-    let bought = same Bid in
-    let sold = same Offer in
-    cc
+      let factor = factor-at xs i x l h in
+      let same = raised-at (lots-in (getD xs i x)) (sheet-of (table-of xs) .held m) s m i q (λ u. sym (held-at xs i x l h m u)) in
+      let bought = same Bid in
+      let sold = same Offer in
+      cc
 
   pub amounts-done : (within : ℕ) (s : Side) (q before after : ℕ) → m < 32 → true ≡ can-grow within (getD xs i x) m s q
-    → before ≡ amount-at amount (sheet-of (table-of xs) .factor) (sheet-of (table-of xs) .held m) i
-    → after ≡ amount-at amount (sheet-of (table-of xs) .factor) (raised (sheet-of (table-of xs) .held m) s i q) i
-    → _≡_ {A = Result AmountChange KeeperRefusal} (Ok (record { before = before; after = after })) (amounts-with amount within (sheet-of (table-of xs)) m i s q)
+      → before ≡ amount-at amount (sheet-of (table-of xs) .factor) (sheet-of (table-of xs) .held m) i
+      → after ≡ amount-at amount (sheet-of (table-of xs) .factor) (raised (sheet-of (table-of xs) .held m) s i q) i
+      → _≡_ {A = Result AmountChange KeeperRefusal} (Ok (record { before = before; after = after })) (amounts-with amount within (sheet-of (table-of xs)) m i s q)
   amounts-done within s q before after lm can b a =
-    ap₂ (λ (y z : ℕ). Ok (record { before = y; after = z })) b a ∙ sym (cond-true _ _ _ (can-record-at xs i x l h within m s q lm ∙ sym can))
+      ap₂ (λ (y z : ℕ). Ok (record { before = y; after = z })) b a ∙ sym (cond-true _ _ _ (can-record-at xs i x l h within m s q lm ∙ sym can))
 
   pub amounts-refused : (within : ℕ) (s : Side) (q : ℕ) → m < 32 → false ≡ can-grow within (getD xs i x) m s q
-    → _≡_ {A = Result AmountChange KeeperRefusal} (Err (record {})) (amounts-with amount within (sheet-of (table-of xs)) m i s q)
+      → _≡_ {A = Result AmountChange KeeperRefusal} (Err (record {})) (amounts-with amount within (sheet-of (table-of xs)) m i s q)
   amounts-refused within s q lm cannot = sym (cond-false _ _ _ (can-record-at xs i x l h within m s q lm ∙ sym cannot))

@@ -69,13 +69,13 @@ module _ (amount : Amount) (none : (factor : ℕ) → amount factor 0 0 ≡ 0) (
   -- Of lots that fit 32 bits no instrument adds more than this, and so the sum over the instruments fits 64.
   pub amount-bounded : (f b s : ℕ) → f ≤ 100000 → b < 2 ^ 32 → s < 2 ^ 32 → amount f b s ≤ most
   amount-bounded f b s lf lb ls =
-    let start = none f in
-    let bought = rise f 0 0 b .0 in
-    let sold = rise f b 0 s .1 in
-    let same-b : amount f (0 + b) 0 ≡ amount f b 0 = ap (λ z. amount f z 0) (omega arith) in
-    let same-s : amount f b (0 + s) ≡ amount f b s = ap (λ z. amount f b z) (omega arith) in
-    let few-b : b ≤ 2 ^ 32 = omega arith in
-    let few-s : s ≤ 2 ^ 32 = omega arith in
-    let worth-b : f * b ≤ 100000 * 2 ^ 32 = mul-le-mul lf few-b in
-    let worth-s : f * s ≤ 100000 * 2 ^ 32 = mul-le-mul lf few-s in
-    omega arith
+      let start = none f in
+      let bought = rise f 0 0 b .0 in
+      let sold = rise f b 0 s .1 in
+      let same-b : amount f (0 + b) 0 ≡ amount f b 0 = ap (λ z. amount f z 0) (omega arith) in
+      let same-s : amount f b (0 + s) ≡ amount f b s = ap (λ z. amount f b z) (omega arith) in
+      let few-b : b ≤ 2 ^ 32 = omega arith in
+      let few-s : s ≤ 2 ^ 32 = omega arith in
+      let worth-b : f * b ≤ 100000 * 2 ^ 32 = mul-le-mul lf few-b in
+      let worth-s : f * s ≤ 100000 * 2 ^ 32 = mul-le-mul lf few-s in
+      omega arith

@@ -33,12 +33,12 @@ summed amount factor totals = sum-below 16 (amount-at amount factor totals)
 abbrev pub amounts-with : Amount → ℕ → Sheet → ℕ → ℕ → Side → ℕ → Result AmountChange KeeperRefusal
 amounts-with amount reach sheet member instrument side lots =
     cond (can-record reach sheet member instrument side lots)
-      (Ok
-        (record
-          { before = amount-at amount (sheet .factor) (sheet .held member) instrument
-          ; after = amount-at amount (sheet .factor) (raised (sheet .held member) side instrument lots) instrument
-          }))
-      (Err (record {}))
+    (Ok
+    (record {
+      before = amount-at amount (sheet .factor) (sheet .held member) instrument;
+      after = amount-at amount (sheet .factor) (raised (sheet .held member) side instrument lots) instrument;
+    }))
+    (Err (record {}))
 
 -- q lots more on either side of an instrument add at most 2 × factor × q.
 abbrev pub Amount-rise-bounded : Amount → Type 0

@@ -112,7 +112,9 @@ impl<const REACH: u32> LotsTable<REACH> {
     pub fn fresh() -> Self
         ensures { λ r. ⌜ sheet-of r ≡ fresh-sheet ⌝ }
     {
-        LotsTable { instruments: [InstrumentLots::blank(); INSTRUMENTS] }
+        LotsTable {
+            instruments: [InstrumentLots::blank(); INSTRUMENTS],
+        }
     }
 
     /// Gives an instrument its factor, once.
@@ -179,7 +181,14 @@ impl<const REACH: u32> LotsTable<REACH> {
     }
 
     /// What one instrument adds to a member's need, now and with some lots more; refused where `record` is.
-    pub fn amounts_with<T: Tariff>(&self, tariff: &T, member: u8, instrument: u8, side: Side, lots: u32) -> Result<AmountChange, KeeperRefusal>
+    pub fn amounts_with<T: Tariff>(
+        &self,
+        tariff: &T,
+        member: u8,
+        instrument: u8,
+        side: Side,
+        lots: u32,
+    ) -> Result<AmountChange, KeeperRefusal>
         ensures { λ r. ⌜ r ≡ amounts-with (T·Tariff .charged) REACH (sheet-of (now (self .entry))) member instrument side lots ⌝ }
     {
         let m = member as usize;
@@ -197,10 +206,23 @@ impl<const REACH: u32> LotsTable<REACH> {
     }
 
     /// The need as if some lots were recorded; refused where `record` is.
-    pub fn need_with<T: Tariff>(&self, tariff: &T, member: u8, instrument: u8, side: Side, lots: u32) -> Result<u64, KeeperRefusal>
+    pub fn need_with<T: Tariff>(
+        &self,
+        tariff: &T,
+        member: u8,
+        instrument: u8,
+        side: Side,
+        lots: u32,
+    ) -> Result<u64, KeeperRefusal>
         ensures { λ r. ⌜ r ≡ need-with (summed (T·Tariff .charged)) REACH (sheet-of (now (self .entry))) member instrument side lots ⌝ }
     {
-        let AmountChange { before, after } = self.amounts_with(tariff, member, instrument, side, lots)?;
+        let AmountChange { before, after } = self.amounts_with(
+            tariff,
+            member,
+            instrument,
+            side,
+            lots,
+        )?;
         Ok(self.need(tariff, member) - before + after)
     }
 }

@@ -8,12 +8,12 @@ use Rattle.keepers.proofs.running.RunningKeeping.need_with.Needs as need
 use Rattle.keepers.proofs.running.RunningKeeping.need_with.Needs.{After-need}
 
 moves : (c : After-need)
-  → Moved standard-amount standard-none standard-rise 100000 (omega arith) (sheet-of (c .args .self .now .table)) (sheet-lawful (c .args .self .now .table))
+    → Moved standard-amount standard-none standard-rise 100000 (omega arith) (sheet-of (c .args .self .now .table)) (sheet-lawful (c .args .self .now .table))
     (c .args .member) (c .args .instrument) (c .args .side) (c .args .lots) (c .in-Continue-before .field-0) (c .need .result)
 moves c =
     need-moves standard-amount standard-none standard-rise 100000 (omega arith) (sheet-of (c .args .self .now .table)) (sheet-lawful (c .args .self .now .table))
-      (c .args .member) (c .args .instrument) (c .args .side) (c .args .lots) (c .in-Continue-before .field-0) (c .need .result)
-      (omega arith) (c .in-Continue-before .ensures tt) (c .need .ensures)
+    (c .args .member) (c .args .instrument) (c .args .side) (c .args .lots) (c .in-Continue-before .field-0) (c .need .result)
+    (omega arith) (c .in-Continue-before .ensures tt) (c .need .ensures)
 
 pub sub-result : need.sub-result
 sub-result c = moves c .enough

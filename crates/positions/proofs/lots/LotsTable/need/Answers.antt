@@ -20,8 +20,8 @@ loop-instrument-holds g c = (refl, omega arith)
 
 -- What the instrument of this turn adds, and that it is not too much.
 turn : (g : given.Over) (c : need.After-amount-sum g)
-  → (c .amount-sum .result ≡ amount-at (g .T·Tariff .charged) (sheet-of (c .args .self .now) .factor) (sheet-of (c .args .self .now) .held (c .args .member)) (c .loop-instrument .instrument-index))
-  × (c .amount-sum .result ≤ most)
+    → (c .amount-sum .result ≡ amount-at (g .T·Tariff .charged) (sheet-of (c .args .self .now) .factor) (sheet-of (c .args .self .now) .held (c .args .member)) (c .loop-instrument .instrument-index))
+    × (c .amount-sum .result ≤ most)
 turn g c =
     let amount = g .T·Tariff .charged in
     let i = c .loop-instrument .instrument-index in

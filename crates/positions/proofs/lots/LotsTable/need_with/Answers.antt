@@ -7,13 +7,13 @@ use Rattle.positions.proofs.lots.LotsTable.need_with.Needs as need
 use Rattle.positions.proofs.lots.LotsTable.need_with.Needs.{After-need}
 
 moves : (g : given.Over) (c : After-need g)
-  → Moved (g .T·Tariff .charged) (g .T·Tariff·met .«no_lots_no_amount») (g .T·Tariff·met .«amount_rise_bounded») (g .REACH) (omega (arith, g .REACH·fits))
+    → Moved (g .T·Tariff .charged) (g .T·Tariff·met .«no_lots_no_amount») (g .T·Tariff·met .«amount_rise_bounded») (g .REACH) (omega (arith, g .REACH·fits))
     (sheet-of (c .args .self .now)) (sheet-lawful (c .args .self .now)) (c .args .member) (c .args .instrument) (c .args .side) (c .args .lots)
     (c .in-Continue-before .field-0) (c .need .result)
 moves g c =
     need-moves (g .T·Tariff .charged) (g .T·Tariff·met .«no_lots_no_amount») (g .T·Tariff·met .«amount_rise_bounded») (g .REACH) (omega (arith, g .REACH·fits))
-      (sheet-of (c .args .self .now)) (sheet-lawful (c .args .self .now)) (c .args .member) (c .args .instrument) (c .args .side) (c .args .lots)
-      (c .in-Continue-before .field-0) (c .need .result) (omega arith) (c .in-Continue-before .ensures tt) (c .need .ensures)
+    (sheet-of (c .args .self .now)) (sheet-lawful (c .args .self .now)) (c .args .member) (c .args .instrument) (c .args .side) (c .args .lots)
+    (c .in-Continue-before .field-0) (c .need .result) (omega arith) (c .in-Continue-before .ensures tt) (c .need .ensures)
 
 pub sub-result : need.sub-result
 sub-result g c = moves g c .enough

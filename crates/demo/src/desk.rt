@@ -1,11 +1,11 @@
 //! The three keepers, called together so that they can be compared.
 
+use keepers::gross::GrossAsKeeper;
 use keepers::gross::GrossKeeper;
-use keepers::gross::GrossKeeping;
 use keepers::reckoner::Reckoner;
-use keepers::reckoner::ReckonerKeeper;
+use keepers::reckoner::ReckonerAsKeeper;
+use keepers::running::RunningAsKeeper;
 use keepers::running::RunningKeeper;
-use keepers::running::RunningKeeping;
 use margin::keeper::Keeper;
 use margin::refusal::KeeperRefusal;
 use margin::trade::record_trade;

@@ -2,12 +2,12 @@
 
 #[cfg(test)]
 mod tests {
+    use keepers::gross::GrossAsKeeper;
     use keepers::gross::GrossKeeper;
-    use keepers::gross::GrossKeeping;
     use keepers::reckoner::Reckoner;
-    use keepers::reckoner::ReckonerKeeper;
+    use keepers::reckoner::ReckonerAsKeeper;
+    use keepers::running::RunningAsKeeper;
     use keepers::running::RunningKeeper;
-    use keepers::running::RunningKeeping;
     use margin::deposit::deposit_use;
     use margin::keeper::Keeper;
     use margin::trade::record_trade;

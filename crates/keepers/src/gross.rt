@@ -26,7 +26,7 @@ impl GrossKeeper {
     }
 }
 
-pub impl Keeper for GrossKeeper as GrossKeeping {
+pub impl Keeper for GrossKeeper as GrossAsKeeper {
     const REACH: u32 = 100_000;
 
     ghost sheet = { λ keeper. sheet-of (keeper .table) };

@@ -26,7 +26,7 @@ impl Reckoner {
     }
 }
 
-pub impl Keeper for Reckoner as ReckonerKeeper {
+pub impl Keeper for Reckoner as ReckonerAsKeeper {
     const REACH: u32 = 100_000;
 
     ghost sheet = { λ keeper. sheet-of (keeper .table) };

@@ -1,7 +1,9 @@
 ghost use mathlib.Core.Path.{_≡_};
 ghost use Prim.Native.Nat.{ℕ};
 ghost use lib.ListN.{getD, length};
-ghost use Rattle.margin.specs.Sheets.{fresh-sheet, need-of};
+ghost use Rattle.margin.specs.Sheets.{fresh-sheet, can-set-factor, after-set-factor, can-record, after-record, need-of, need-with};
+ghost use Rattle.std.specs.Results.{isOk};
+ghost use Rattle.std.specs.declared.result.Result.the-variants.{Ok};
 ghost use Rattle.positions.specs.Charges.{summed, standard-amount};
 ghost use Rattle.positions.specs.Reads.{sheet-of};
 use margin::keeper::Keeper;
@@ -26,14 +28,47 @@ impl RunningKeeper {
     pub fn fresh() -> Self
         ensures { λ r. ⌜ sheet-of (r .table) ≡ fresh-sheet ⌝ }
     {
+        Self::over(LotsTable::fresh())
+    }
+
+    fn over(table: LotsTable<100_000>) -> Self
+        requires { ⌜ sheet-of table ≡ fresh-sheet ⌝ }
+        ensures { λ r. ⌜ sheet-of (r .table) ≡ sheet-of table ⌝ }
+    {
         RunningKeeper {
-            table: LotsTable::fresh(),
+            table,
             needs: [0; MEMBERS],
         }
     }
+
+    // A new factor meets no lots, so every need that is kept stays right.
+    fn set_unused_factor(&mut self, instrument: u8, factor: u32) -> Result<(), KeeperRefusal>
+        ensures answer { λ r. ⌜ isOk r ≡ can-set-factor (sheet-of (now (self .entry) .table)) instrument factor ⌝ }
+        ensures after { λ _. ⌜ sheet-of (now (self .exit) .table) ≡ after-set-factor (sheet-of (now (self .entry) .table)) instrument factor ⌝ }
+    {
+        self.table.set_factor(instrument, factor)
+    }
+
+    // Records lots, the member's need after them being known.
+    fn record_with_need(
+        &mut self,
+        member: u8,
+        instrument: u8,
+        side: Side,
+        lots: u32,
+        need: u64,
+    ) -> Result<(), KeeperRefusal>
+        requires { ⌜ Ok need ≡ need-with (summed standard-amount) 100000 (sheet-of (now self .table)) member instrument side lots ⌝ }
+        ensures answer { λ r. ⌜ isOk r ≡ can-record 100000 (sheet-of (now (self .entry) .table)) member instrument side lots ⌝ }
+        ensures after { λ _. ⌜ sheet-of (now (self .exit) .table) ≡ after-record 100000 (sheet-of (now (self .entry) .table)) member instrument side lots ⌝ }
+    {
+        self.table.record(member, instrument, side, lots)?;
+        self.needs[member as usize] = need;
+        Ok(())
+    }
 }
 
-pub impl Keeper for RunningKeeper as RunningKeeping {
+pub impl Keeper for RunningKeeper as RunningAsKeeper {
     const REACH: u32 = 100_000;
 
     ghost sheet = { λ keeper. sheet-of (keeper .table) };
@@ -47,7 +82,7 @@ pub impl Keeper for RunningKeeper as RunningKeeping {
     }
 
     fn set_factor(&mut self, instrument: u8, factor: u32) -> Result<(), KeeperRefusal> {
-        self.table.set_factor(instrument, factor)
+        self.set_unused_factor(instrument, factor)
     }
 
     fn record(
@@ -58,9 +93,7 @@ pub impl Keeper for RunningKeeper as RunningKeeping {
         lots: u32,
     ) -> Result<(), KeeperRefusal> {
         let need = self.need_with(member, instrument, side, lots)?;
-        self.table.record(member, instrument, side, lots)?;
-        self.needs[member as usize] = need;
-        Ok(())
+        self.record_with_need(member, instrument, side, lots, need)
     }
 
     fn held(&self, member: u8, instrument: u8, side: Side) -> u32 {

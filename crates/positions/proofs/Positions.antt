@@ -48,13 +48,8 @@ module _ (amount : Amount) {reach : ℕ} (xs : List (InstrumentLots reach)) (i :
       let sold = same Offer in
       cc
 
-  pub amounts-done : (within : ℕ) (s : Side) (q before after : ℕ) → m < 32 → true ≡ can-grow within (getD xs i x) m s q
-      → before ≡ amount-at amount (sheet-of (table-of xs) .factor) (sheet-of (table-of xs) .held m) i
-      → after ≡ amount-at amount (sheet-of (table-of xs) .factor) (raised (sheet-of (table-of xs) .held m) s i q) i
-      → _≡_ {A = Result AmountChange KeeperRefusal} (Ok (record { before = before; after = after })) (amounts-with amount within (sheet-of (table-of xs)) m i s q)
-  amounts-done within s q before after lm can b a =
-      ap₂ (λ (y z : ℕ). Ok (record { before = y; after = z })) b a ∙ sym (cond-true _ _ _ (can-record-at xs i x l h within m s q lm ∙ sym can))
-
-  pub amounts-refused : (within : ℕ) (s : Side) (q : ℕ) → m < 32 → false ≡ can-grow within (getD xs i x) m s q
-      → _≡_ {A = Result AmountChange KeeperRefusal} (Err (record {})) (amounts-with amount within (sheet-of (table-of xs)) m i s q)
-  amounts-refused within s q lm cannot = sym (cond-false _ _ _ (can-record-at xs i x l h within m s q lm ∙ sym cannot))
+  pub amounts-done : (within : ℕ) (s : Side) (q : ℕ) (change : AmountChange) → can-record within (sheet-of (table-of xs)) m i s q ≡ true
+      → change .before ≡ amount-at amount (sheet-of (table-of xs) .factor) (sheet-of (table-of xs) .held m) i
+      → change .after ≡ amount-at amount (sheet-of (table-of xs) .factor) (raised (sheet-of (table-of xs) .held m) s i q) i
+      → Ok change ≡ amounts-with amount within (sheet-of (table-of xs)) m i s q
+  amounts-done within s q change can b a = ap₂ (λ (y z : ℕ). Ok (record { before = y; after = z })) b a ∙ sym (cond-true _ _ _ can)

@@ -96,6 +96,9 @@ module _ {reach : ℕ} (xs : List (InstrumentLots reach)) (i : ℕ) (x : Instrum
       ap (λ b. b && (not (eqb (sheet-of (table-of xs) .factor i) 0) && (leb 1 q && leb (sheet-of (table-of xs) .held m s i + q) within))) (lt-ltb m 32 lm)
       ∙ ap₂ (λ f t. not (eqb f 0) && (leb 1 q && leb (t + q) within)) factor-at (held-at m s)
 
+  pub can-record-from : (within m : ℕ) (s : Side) (q : ℕ) (b : Bool) → m < 32 → b ≡ can-grow within (getD xs i x) m s q → can-record within (sheet-of (table-of xs)) m i s q ≡ b
+  can-record-from within m s q b lm e = can-record-at within m s q lm ∙ sym e
+
   pub sheet-after-record : (within : ℕ) (y : InstrumentLots reach) (m : ℕ) (s : Side) (q : ℕ) → m < 32 → y .factor ≡ getD xs i x .factor
       → lots-in y ≡ cond (can-grow within (getD xs i x) m s q) (raised (lots-in (getD xs i x)) s m q) (lots-in (getD xs i x))
       → sheet-of (table-of (set xs i y)) ≡ after-record within (sheet-of (table-of xs)) m i s q

@@ -1,6 +1,7 @@
 -- The charges that ship. Each is a sum over the instruments of an amount for one.
-use Prim.Native.Nat.{ℕ, _+_, _-_, _*_, _≤_, max, min}
+use Prim.Native.Nat.{ℕ, _+_, _-_, _*_, _^_, _≤_, _<_, max, min}
 use mathlib.Core.Bool.{cond}
+use mathlib.Core.Path.{_≡_}
 use Rattle.std.specs.declared.result.Result.{Result}
 use Rattle.std.specs.declared.result.Result.the-variants.{Ok, Err}
 use Rattle.terms.specs.declared.Side.{Side}
@@ -39,6 +40,12 @@ amounts-with amount reach sheet member instrument side lots =
       after = amount-at amount (sheet .factor) (raised (sheet .held member) side instrument lots) instrument;
     }))
     (Err (record {}))
+
+-- A need moves with what one instrument adds: less the amount before, and the amount after more. The new one fits 64 bits.
+pub record Moves (need : ℕ) (change : AmountChange) (new : ℕ) : Type 0 where
+  pub enough : change .before ≤ need
+  pub sum : need - change .before + change .after ≡ new
+  pub fits : new < 2 ^ 64
 
 -- q lots more on either side of an instrument add at most 2 × factor × q.
 abbrev pub Amount-rise-bounded : Amount → Type 0

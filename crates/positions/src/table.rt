@@ -1,120 +1,26 @@
-ghost use mathlib.Core.Bool.{cond, not, _&&_};
 ghost use mathlib.Core.Path.{_≡_};
-ghost use Prim.Native.Nat.{_<_, _≤_, _+_};
-ghost use lib.Dec.{eqb, leb};
+ghost use Prim.Native.Nat.{_<_};
 ghost use Rattle.std.specs.Results.{isOk};
 ghost use Rattle.std.specs.Vec.{made};
-ghost use Rattle.margin.specs.Sheets.{no-lots, raised, fresh-sheet, can-set-factor, after-set-factor, can-record, after-record, need-of, need-with};
-ghost use Rattle.positions.specs.Charges.{summed, amounts-with};
-ghost use Rattle.positions.specs.Reads.{lots-in, sheet-of, can-take-factor, can-grow, Is-position};
+ghost use Rattle.margin.specs.Sheets.{no-lots, fresh-sheet, can-set-factor, after-set-factor, can-record, recorded, after-record, need-of, need-with};
+ghost use Rattle.positions.specs.Charges.{summed, amounts-with, Moves};
+ghost use Rattle.positions.specs.Reads.{lots-in, sheet-of};
 use crate::lots::AmountChange;
-use crate::lots::HIGHEST_FACTOR;
 use crate::lots::INSTRUMENTS;
 use crate::lots::InstrumentLots;
 use crate::lots::LotsTable;
 use crate::lots::MEMBERS;
-use crate::lots::Position;
 use crate::tariff::Tariff;
 use margin::refusal::KeeperRefusal;
 use terms::Side;
 
-impl<const REACH: u32> InstrumentLots<REACH> {
-    fn blank() -> Self
-        ensures factor { λ r. ⌜ r .factor ≡ 0 ⌝ }
-        ensures lots { λ r. ⌜ lots-in r ≡ no-lots ⌝ }
-    {
-        InstrumentLots {
-            factor: 0,
-            bought: [0; MEMBERS],
-            sold: [0; MEMBERS],
-        }
-    }
-
-    fn set_factor(&mut self, factor: u32) -> Result<(), KeeperRefusal>
-        ensures answer { λ r. ⌜ isOk r ≡ can-take-factor (now (self .entry)) factor ⌝ }
-        ensures factor { λ _. ⌜ now (self .exit) .factor ≡ cond (can-take-factor (now (self .entry)) factor) factor (now (self .entry) .factor) ⌝ }
-        ensures lots { λ _. ⌜ lots-in (now (self .exit)) ≡ lots-in (now (self .entry)) ⌝ }
-    {
-        if self.factor != 0 {
-            return Err(KeeperRefusal);
-        }
-        if factor == 0 {
-            return Err(KeeperRefusal);
-        }
-        if factor > HIGHEST_FACTOR {
-            return Err(KeeperRefusal);
-        }
-        self.factor = factor;
-        Ok(())
-    }
-
-    fn position(&self, member: usize) -> Position
-        requires { ⌜ member < 32 ⌝ }
-        ensures { λ r. ⌜ Is-position (now (self .entry) .factor) (lots-in (now (self .entry))) member r ⌝ }
-    {
-        Position {
-            factor: self.factor,
-            bought: self.bought[member],
-            sold: self.sold[member],
-        }
-    }
-
-    fn total(&self, member: usize, side: Side) -> u32
-        requires { ⌜ member < 32 ⌝ }
-        ensures { λ r. ⌜ r ≡ lots-in (now (self .entry)) side member ⌝ }
-    {
-        match side {
-            Side::Bid => self.bought[member],
-            Side::Offer => self.sold[member],
-        }
-    }
-
-    // The member's position with some lots more, or record's refusal.
-    fn position_with(&self, member: usize, side: Side, lots: u32) -> Result<Position, KeeperRefusal>
-        requires { ⌜ member < 32 ⌝ }
-        ensures answer { λ r. ⌜ isOk r ≡ can-grow REACH (now (self .entry)) member side lots ⌝ }
-        ensures value { λ r. ⌜ made r (Is-position (now (self .entry) .factor) (raised (lots-in (now (self .entry))) side member lots) member) ⌝ }
-    {
-        if self.factor == 0 {
-            return Err(KeeperRefusal);
-        }
-        if lots == 0 {
-            return Err(KeeperRefusal);
-        }
-        if lots > REACH - self.total(member, side) {
-            return Err(KeeperRefusal);
-        }
-        let mut position = self.position(member);
-        match side {
-            Side::Bid => position.bought += lots,
-            Side::Offer => position.sold += lots,
-        }
-        Ok(position)
-    }
-
-    fn record(&mut self, member: usize, side: Side, lots: u32) -> Result<(), KeeperRefusal>
-        requires { ⌜ member < 32 ⌝ }
-        ensures answer { λ r. ⌜ isOk r ≡ can-grow REACH (now (self .entry)) member side lots ⌝ }
-        ensures factor { λ _. ⌜ now (self .exit) .factor ≡ now (self .entry) .factor ⌝ }
-        ensures lots { λ _. ⌜ lots-in (now (self .exit)) ≡ cond (can-grow REACH (now (self .entry)) member side lots) (raised (lots-in (now (self .entry))) side member lots) (lots-in (now (self .entry))) ⌝ }
-    {
-        let position = self.position_with(member, side, lots)?;
-        match side {
-            Side::Bid => self.bought[member] = position.bought,
-            Side::Offer => self.sold[member] = position.sold,
-        }
-        Ok(())
-    }
-}
-
+// The calls. Each tests its own arguments, and leaves the work to a function below that is given places within the table.
 impl<const REACH: u32> LotsTable<REACH> {
     /// No factor and no lots.
     pub fn fresh() -> Self
         ensures { λ r. ⌜ sheet-of r ≡ fresh-sheet ⌝ }
     {
-        LotsTable {
-            instruments: [InstrumentLots::blank(); INSTRUMENTS],
-        }
+        Self::of(InstrumentLots::blank())
     }
 
     /// Gives an instrument its factor, once.
@@ -126,9 +32,10 @@ impl<const REACH: u32> LotsTable<REACH> {
         if i >= INSTRUMENTS {
             return Err(KeeperRefusal);
         }
-        self.instruments[i].set_factor(factor)
+        self.set_factor_at(i, factor)
     }
 
+    /// Adds lots to one of a member's totals.
     pub fn record(
         &mut self,
         member: u8,
@@ -147,22 +54,18 @@ impl<const REACH: u32> LotsTable<REACH> {
         if i >= INSTRUMENTS {
             return Err(KeeperRefusal);
         }
-        self.instruments[i].record(m, side, lots)
+        self.record_at(m, i, side, lots)
     }
 
     /// One of a member's totals; 0 for a member or an instrument out of range.
     pub fn held(&self, member: u8, instrument: u8, side: Side) -> u32
         ensures { λ r. ⌜ r ≡ sheet-of (now (self .entry)) .held member side instrument ⌝ }
     {
-        let m = member as usize;
         let i = instrument as usize;
-        if m >= MEMBERS {
-            return 0;
-        }
         if i >= INSTRUMENTS {
             return 0;
         }
-        self.instruments[i].total(m, side)
+        self.held_at(member as usize, i, side)
     }
 
     /// A member's need under a tariff: the sum of what the instruments add; 0 for a member out of range.
@@ -173,11 +76,7 @@ impl<const REACH: u32> LotsTable<REACH> {
         if m >= MEMBERS {
             return 0;
         }
-        let mut sum = 0;
-        for instrument in &self.instruments {
-            sum += tariff.amount(instrument.position(m));
-        }
-        sum
+        self.charge_at(tariff, m)
     }
 
     /// What one instrument adds to a member's need, now and with some lots more; refused where `record` is.
@@ -189,7 +88,9 @@ impl<const REACH: u32> LotsTable<REACH> {
         side: Side,
         lots: u32,
     ) -> Result<AmountChange, KeeperRefusal>
-        ensures { λ r. ⌜ r ≡ amounts-with (T·Tariff .charged) REACH (sheet-of (now (self .entry))) member instrument side lots ⌝ }
+        ensures answer { λ r. ⌜ isOk r ≡ can-record REACH (sheet-of (now (self .entry))) member instrument side lots ⌝ }
+        ensures value { λ r. ⌜ r ≡ amounts-with (T·Tariff .charged) REACH (sheet-of (now (self .entry))) member instrument side lots ⌝ }
+        ensures moves { λ r. ⌜ made r (λ change. Moves (need-of (summed (T·Tariff .charged)) (sheet-of (now (self .entry))) member) change (need-of (summed (T·Tariff .charged)) (recorded (sheet-of (now (self .entry))) member instrument side lots) member)) ⌝ }
     {
         let m = member as usize;
         let i = instrument as usize;
@@ -199,10 +100,7 @@ impl<const REACH: u32> LotsTable<REACH> {
         if i >= INSTRUMENTS {
             return Err(KeeperRefusal);
         }
-        let grown = self.instruments[i].position_with(m, side, lots)?;
-        let before = tariff.amount(self.instruments[i].position(m));
-        let after = tariff.amount(grown);
-        Ok(AmountChange { before, after })
+        self.amounts_at(tariff, m, i, side, lots)
     }
 
     /// The need as if some lots were recorded; refused where `record` is.
@@ -224,5 +122,73 @@ impl<const REACH: u32> LotsTable<REACH> {
             lots,
         )?;
         Ok(self.need(tariff, member) - before + after)
+    }
+}
+
+impl<const REACH: u32> LotsTable<REACH> {
+    fn of(blank: InstrumentLots<REACH>) -> Self
+        requires factor { ⌜ blank .factor ≡ 0 ⌝ }
+        requires lots { ⌜ lots-in blank ≡ no-lots ⌝ }
+        ensures { λ r. ⌜ sheet-of r ≡ fresh-sheet ⌝ }
+    {
+        LotsTable {
+            instruments: [blank; INSTRUMENTS],
+        }
+    }
+
+    fn set_factor_at(&mut self, i: usize, factor: u32) -> Result<(), KeeperRefusal>
+        requires { ⌜ i < 16 ⌝ }
+        ensures answer { λ r. ⌜ isOk r ≡ can-set-factor (sheet-of (now (self .entry))) i factor ⌝ }
+        ensures after { λ _. ⌜ sheet-of (now (self .exit)) ≡ after-set-factor (sheet-of (now (self .entry))) i factor ⌝ }
+    {
+        self.instruments[i].set_factor(factor)
+    }
+
+    fn record_at(&mut self, m: usize, i: usize, side: Side, lots: u32) -> Result<(), KeeperRefusal>
+        requires { ⌜ m < 32 ⌝ ∗ ⌜ i < 16 ⌝ }
+        ensures answer { λ r. ⌜ isOk r ≡ can-record REACH (sheet-of (now (self .entry))) m i side lots ⌝ }
+        ensures after { λ _. ⌜ sheet-of (now (self .exit)) ≡ after-record REACH (sheet-of (now (self .entry))) m i side lots ⌝ }
+    {
+        self.instruments[i].record(m, side, lots)
+    }
+
+    fn held_at(&self, m: usize, i: usize, side: Side) -> u32
+        requires { ⌜ i < 16 ⌝ }
+        ensures { λ r. ⌜ r ≡ sheet-of (now (self .entry)) .held m side i ⌝ }
+    {
+        if m >= MEMBERS {
+            return 0;
+        }
+        self.instruments[i].total(m, side)
+    }
+
+    fn charge_at<T: Tariff>(&self, tariff: &T, m: usize) -> u64
+        requires { ⌜ m < 32 ⌝ }
+        ensures { λ r. ⌜ r ≡ summed (T·Tariff .charged) (sheet-of (now (self .entry)) .factor) (sheet-of (now (self .entry)) .held m) ⌝ }
+    {
+        let mut sum = 0;
+        for instrument in &self.instruments {
+            sum += tariff.amount(instrument.position(m));
+        }
+        sum
+    }
+
+    fn amounts_at<T: Tariff>(
+        &self,
+        tariff: &T,
+        m: usize,
+        i: usize,
+        side: Side,
+        lots: u32,
+    ) -> Result<AmountChange, KeeperRefusal>
+        requires { ⌜ m < 32 ⌝ ∗ ⌜ i < 16 ⌝ }
+        ensures answer { λ r. ⌜ isOk r ≡ can-record REACH (sheet-of (now (self .entry))) m i side lots ⌝ }
+        ensures value { λ r. ⌜ r ≡ amounts-with (T·Tariff .charged) REACH (sheet-of (now (self .entry))) m i side lots ⌝ }
+        ensures moves { λ r. ⌜ made r (λ change. Moves (need-of (summed (T·Tariff .charged)) (sheet-of (now (self .entry))) m) change (need-of (summed (T·Tariff .charged)) (recorded (sheet-of (now (self .entry))) m i side lots) m)) ⌝ }
+    {
+        let grown = self.instruments[i].position_with(m, side, lots)?;
+        let before = tariff.amount(self.instruments[i].position(m));
+        let after = tariff.amount(grown);
+        Ok(AmountChange { before, after })
     }
 }

@@ -10,7 +10,7 @@ use positions::tariff::GrossTariff;
 use terms::Side;
 
 /// The gross keeper: lots bought are not offset against lots sold.
-#[derive(Clone, Copy)]
+#[derive(Drop)]
 pub struct GrossKeeper {
     table: LotsTable<100_000>,
 }

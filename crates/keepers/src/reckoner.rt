@@ -10,7 +10,7 @@ use positions::tariff::StandardTariff;
 use terms::Side;
 
 /// The reckoner: the standard charge, added up over the instruments when it is asked.
-#[derive(Clone, Copy)]
+#[derive(Drop)]
 pub struct Reckoner {
     table: LotsTable<100_000>,
 }

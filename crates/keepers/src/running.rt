@@ -16,7 +16,7 @@ use positions::tariff::StandardTariff;
 use terms::Side;
 
 /// The running keeper: the standard charge, each member's kept beside the lots and brought up to date at each record.
-#[derive(Clone, Copy)]
+#[derive(Drop)]
 pub struct RunningKeeper {
     table: LotsTable<100_000>,
     needs: [u64; MEMBERS],

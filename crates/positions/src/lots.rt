@@ -40,7 +40,7 @@ pub struct InstrumentLots<const REACH: u32> {
 }
 
 /// Factors and lots, as every keeper of this crate holds them.
-#[derive(Clone, Copy)]
+#[derive(Drop)]
 pub struct LotsTable<const REACH: u32> {
     pub(crate) instruments: [InstrumentLots<REACH>; INSTRUMENTS],
 }

@@ -1,23 +1,22 @@
 -- What the running keeper keeps stays each member's need.
 use mathlib.Core.Path.{_≡_, refl, sym, ap, ap₂, subst, _∙_, fun-ext}
-use mathlib.Core.Bool.{true, false, cond, _&&_}
+use mathlib.Core.Bool.{true, cond, _&&_}
 use mathlib.Core.List.{List}
 use mathlib.Core.Logic.{⊎-elim}
-use Prim.Native.Nat.{ℕ, _+_, _≤_, _<_}
+use Prim.Native.Nat.{ℕ, _<_}
 use native.Mathlib.Omega.{arith}
 use lib.Dec.{eqb, leb, ltb}
 use lib.ListN.{getD, set, length}
 use Rattle.std.specs.declared.result.Result.{Result}
-use Rattle.std.specs.declared.result.Result.the-variants.{Ok, Err}
+use Rattle.std.specs.declared.result.Result.the-variants.{Ok}
 use Rattle.std.proofs.shelf.Lists.{getD-set-same, getD-set-other}
 use Rattle.std.proofs.shelf.Tests.{cond-both, cond-true, and-parts, cases-eq, eqb-true, ltb-true}
 use Rattle.terms.specs.declared.Side.{Side}
 use Rattle.terms.specs.declared.Side.the-variants.{Bid, Offer}
 use Rattle.terms.specs.Tables.{put, sum-below}
-use Rattle.terms.proofs.Tables.{put-cases, put-here, put-there}
-use Rattle.margin.specs.Sheets.{Sheet, Totals, no-lots, raised, fresh-sheet, can-set-factor, with-factor, after-set-factor, can-record, recorded, after-record, need-of, need-with}
+use Rattle.terms.proofs.Tables.{put-cases, put-there}
+use Rattle.margin.specs.Sheets.{Sheet, no-lots, raised, fresh-sheet, can-set-factor, with-factor, after-set-factor, can-record, recorded, after-record, need-of, need-with}
 use Rattle.margin.specs.declared.refusal.KeeperRefusal.{KeeperRefusal}
-use Rattle.margin.specs.Laws.{Lawful}
 use Rattle.positions.specs.declared.lots.LotsTable.{LotsTable}
 use Rattle.positions.specs.Charges.{summed, amount-at, standard-amount}
 use Rattle.positions.specs.Reads.{sheet-of}

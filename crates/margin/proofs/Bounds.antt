@@ -1,18 +1,17 @@
 -- The two laws bound every charge: totals are nothing, raised once for each side of each instrument.
-use mathlib.Core.Path.{_≡_, refl, sym, ap, subst, _∙_, fun-ext}
-use mathlib.Core.Bool.{Bool, true, false, cond}
-use Prim.Native.Nat.{ℕ, zero, suc, _+_, _*_, _≤_, _<_}
+use mathlib.Core.Path.{_≡_, refl, sym, ap, _∙_, fun-ext}
+use mathlib.Core.Bool.{cond}
+use Prim.Native.Nat.{ℕ, zero, suc, _+_, _*_, _≤_}
 use native.Mathlib.Omega.{arith}
 use native.Mathlib.Nat.{mul-le-mul, mul-suc}
 use lib.Dec.{ltb}
-use Rattle.std.proofs.shelf.Tests.{cases-lt, lt-ltb, le-ltb, cond-true, cond-false, cond-both, ltb-false}
+use Rattle.std.proofs.shelf.Tests.{lt-ltb, le-ltb, cond-true, cond-false, cond-both, ltb-false}
 use Rattle.std.proofs.shelf.Ways.{tells}
-use mathlib.Core.Logic.{⊎-elim}
 use Rattle.terms.specs.declared.Side.{Side}
 use Rattle.terms.specs.declared.Side.the-variants.{Bid, Offer}
 use Rattle.terms.specs.Tables.{put}
 use Rattle.terms.proofs.Tables.{put-cases}
-use Rattle.margin.specs.Sheets.{Totals, Sheet, Charge, no-lots, raised, need-of}
+use Rattle.margin.specs.Sheets.{Totals, Sheet, Charge, raised, need-of}
 use Rattle.margin.specs.Laws.{Within, Lawful, Reach-in-range, No-lots-no-charge, Rise-bounded, highest-need, Needs-fit}
 use Rattle.margin.proofs.Raises.{raised-within}
 

@@ -1,5 +1,5 @@
 -- What a margin keeper holds, what its calls make of it, and when they are refused.
-use mathlib.Core.Bool.{Bool, true, false, cond, not, _&&_}
+use mathlib.Core.Bool.{Bool, cond, not, _&&_}
 use Prim.Native.Nat.{ℕ, _+_, _*_, _/_}
 use lib.Dec.{eqb, leb, ltb}
 use Rattle.std.specs.declared.option.Option.{Option}
@@ -48,7 +48,7 @@ abbrev pub after-set-factor : Sheet → ℕ → ℕ → Sheet
 after-set-factor sheet instrument factor =
     cond (can-set-factor sheet instrument factor) (with-factor sheet instrument factor) sheet
 
--- Record: the member is there, the instrument has a factor, the lots are not 0, and the total stays within the reach.
+-- Record: the member is there, the instrument has a factor (one above 15 has none), the lots are not 0, and the total stays within the reach.
 abbrev pub can-record : ℕ → Sheet → ℕ → ℕ → Side → ℕ → Bool
 can-record reach sheet member instrument side lots =
     ltb member 32 && (not (eqb (sheet .factor instrument) 0) && (leb 1 lots && leb (sheet .held member side instrument + lots) reach))

@@ -1,6 +1,6 @@
 -- A need, with what one instrument adds after a record in place of what it adds before.
-use mathlib.Core.Path.{_≡_, refl, sym, ap, subst, _∙_}
-use mathlib.Core.Bool.{Bool, true, false, cond, not, _&&_}
+use mathlib.Core.Path.{_≡_, ap, _∙_}
+use mathlib.Core.Bool.{true, not, _&&_}
 use mathlib.Core.Logic.{⊎-elim}
 use Prim.Native.Nat.{ℕ, _+_, _-_, _*_, _^_, _≤_, _<_}
 use native.Mathlib.Omega.{arith}
@@ -10,7 +10,7 @@ use Rattle.std.proofs.shelf.Tests.{cond-true, cases-lt, and-parts, eqb-false, n
 use Rattle.terms.specs.declared.Side.{Side}
 use Rattle.terms.specs.declared.Side.the-variants.{Bid, Offer}
 use Rattle.terms.proofs.Tables.{put-here, place-at-most-sum, sum-at-most}
-use Rattle.margin.specs.Sheets.{Totals, Sheet, raised, recorded, can-record, need-of}
+use Rattle.margin.specs.Sheets.{Sheet, raised, recorded, can-record, need-of}
 use Rattle.margin.specs.Laws.{Lawful}
 use Rattle.positions.specs.declared.lots.AmountChange.{AmountChange}
 use Rattle.positions.specs.Charges.{Amount, amount-at, summed, Moves, Amount-rise-bounded}

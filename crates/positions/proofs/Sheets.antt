@@ -1,20 +1,20 @@
 -- The sheet that a table of lots means, as one instrument of the table is written.
 use mathlib.Core.Path.{_≡_, refl, sym, ap, ap₂, subst, _∙_, fun-ext}
 use mathlib.Core.Bool.{Bool, true, false, cond, not, _&&_}
-use mathlib.Core.List.{List, [], _∷_}
+use mathlib.Core.List.{List}
 use mathlib.Core.Logic.{⊎-elim}
 use Prim.Native.Nat.{ℕ, zero, suc, _+_, _≤_, _<_}
 use native.Mathlib.Omega.{arith}
-use lib.Dec.{eqb, leb, ltb}
+use lib.Dec.{eqb, leb}
 use lib.ListN.{getD, set, length, replicate}
 use Rattle.std.proofs.shelf.Lists.{getD-past}
 use Rattle.std.proofs.shelf.Tests.{lt-ltb, cond-true, cond-false, cases-bool}
 use Rattle.terms.specs.declared.Side.{Side}
 use Rattle.terms.specs.declared.Side.the-variants.{Bid, Offer}
-use Rattle.terms.specs.Sides.{same-side}
-use Rattle.terms.specs.Tables.{put, column}
-use Rattle.terms.proofs.Tables.{put-cases, put-same, put-here, put-there, column-at, column-past, column-set, column-all, column-follows, column-replicate}
+use Rattle.terms.specs.Tables.{put}
+use Rattle.terms.proofs.Tables.{put-cases, put-same, column-at, column-past, column-set, column-all, column-follows, column-replicate}
 use Rattle.margin.specs.Sheets.{Sheet, Totals, no-lots, raised, fresh-sheet, can-set-factor, with-factor, after-set-factor, can-record, recorded, after-record}
+use Rattle.margin.proofs.Raises.{raised-alike, raised-there}
 use Rattle.margin.specs.Laws.{Lawful}
 use Rattle.positions.specs.declared.lots.InstrumentLots.{InstrumentLots}
 use Rattle.positions.specs.declared.lots.LotsTable.{LotsTable}
@@ -31,23 +31,17 @@ held-raised : (H : ℕ → Totals) (m i q : ℕ) (s : Side) (lots : Side → ℕ
     → (λ k u. put (H k u) i (raised lots s m q u k)) ≡ put H m (raised (H m) s i q)
 held-raised H m i q s lots at = fun-ext (λ k. put-cases H m (raised (H m) s i q) k (λ (z : Totals). (λ u. put (H k u) i (raised lots s m q u k)) ≡ z) (here k) (there k))
   where
-    own : (s u : Side) → put (H m u) i (raised lots s m q u m) ≡ raised (H m) s i q u
-    own Bid Bid = ap (put (H m Bid) i) (put-here (lots Bid) m (lots Bid m + q) ∙ ap (λ z. z + q) (sym (at m Bid)))
-    own Bid Offer = put-same (H m Offer) i (lots Offer m) (at m Offer)
-    own Offer Bid = put-same (H m Bid) i (lots Bid m) (at m Bid)
-    own Offer Offer = ap (put (H m Offer) i) (put-here (lots Offer) m (lots Offer m + q) ∙ ap (λ z. z + q) (sym (at m Offer)))
+    own : (u : Side) (j : ℕ) → put (H m u) i (raised lots s m q u m) j ≡ raised (H m) s i q u j
+    own u j =
+        put-cases (H m u) i (raised lots s m q u m) j (λ z. z ≡ raised (H m) s i q u j)
+        (λ e. subst (λ k. raised lots s m q u m ≡ raised (H m) s i q u k) e (raised-alike lots (H m) s m i q (λ v. sym (at m v)) u))
+        (λ ne. sym (raised-there (H m) s i q u j ne))
 
     here : (k : ℕ) → m ≡ k → (λ u. put (H k u) i (raised lots s m q u k)) ≡ raised (H m) s i q
-    here k e = subst (λ z. (λ u. put (H z u) i (raised lots s m q u z)) ≡ raised (H m) s i q) e (fun-ext (own s))
-
-    other : (k : ℕ) → (m ≡ k → ⊥) → (s u : Side) → put (H k u) i (raised lots s m q u k) ≡ H k u
-    other k ne Bid Bid = ap (put (H k Bid) i) (put-there (lots Bid) m (lots Bid m + q) k ne) ∙ put-same (H k Bid) i (lots Bid k) (at k Bid)
-    other k ne Bid Offer = put-same (H k Offer) i (lots Offer k) (at k Offer)
-    other k ne Offer Bid = put-same (H k Bid) i (lots Bid k) (at k Bid)
-    other k ne Offer Offer = ap (put (H k Offer) i) (put-there (lots Offer) m (lots Offer m + q) k ne) ∙ put-same (H k Offer) i (lots Offer k) (at k Offer)
+    here k e = subst (λ z. (λ u. put (H z u) i (raised lots s m q u z)) ≡ raised (H m) s i q) e (fun-ext (λ u. fun-ext (own u)))
 
     there : (k : ℕ) → (m ≡ k → ⊥) → (λ u. put (H k u) i (raised lots s m q u k)) ≡ H k
-    there k ne = fun-ext (other k ne s)
+    there k ne = fun-ext (λ u. put-same (H k u) i (raised lots s m q u k) (at k u ∙ sym (raised-there lots s m q u k ne)))
 
 module _ {reach : ℕ} (xs : List (InstrumentLots reach)) (i : ℕ) (x : InstrumentLots reach) (l : i < 16) (h : i < length xs) where
   pub factor-at : sheet-of (table-of xs) .factor i ≡ getD xs i x .factor

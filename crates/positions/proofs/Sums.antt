@@ -1,5 +1,5 @@
 -- A charge that sums an amount over the instruments: its laws follow from the amount's.
-use mathlib.Core.Path.{_≡_, refl, sym, ap, subst, _∙_, fun-ext}
+use mathlib.Core.Path.{_≡_, sym, ap, subst, _∙_, fun-ext}
 use mathlib.Core.Logic.{⊎-elim}
 use Prim.Native.Nat.{ℕ, _+_, _*_, _^_, _≤_, _<_}
 use native.Mathlib.Omega.{arith}
@@ -8,16 +8,11 @@ use Rattle.std.proofs.shelf.Tests.{cases-lt}
 use Rattle.terms.specs.declared.Side.{Side}
 use Rattle.terms.specs.declared.Side.the-variants.{Bid, Offer}
 use Rattle.terms.specs.Tables.{put, sum-below}
-use Rattle.terms.proofs.Tables.{put-cases, put-here, put-there, sum-put, sum-put-past, sum-zero, sum-at-most}
+use Rattle.terms.proofs.Tables.{put-cases, put-here, sum-put, sum-put-past, sum-zero}
 use Rattle.margin.specs.Sheets.{Totals, raised, no-lots}
-use Rattle.margin.specs.Laws.{Within, No-lots-no-charge, Rise-bounded}
+use Rattle.margin.specs.Laws.{No-lots-no-charge, Rise-bounded}
+use Rattle.margin.proofs.Raises.{raised-there}
 use Rattle.positions.specs.Charges.{Amount, amount-at, summed, Amount-rise-bounded}
-
-raised-elsewhere : (t : Totals) (s : Side) (i q : ℕ) (u : Side) (j : ℕ) → (i ≡ j → ⊥) → raised t s i q u j ≡ t u j
-raised-elsewhere t Bid i q Bid j ne = put-there (t Bid) i (t Bid i + q) j ne
-raised-elsewhere t Bid i q Offer j ne = refl
-raised-elsewhere t Offer i q Bid j ne = refl
-raised-elsewhere t Offer i q Offer j ne = put-there (t Offer) i (t Offer i + q) j ne
 
 abbrev pub most : ℕ
 most = 4 * (100000 * 2 ^ 32)
@@ -32,8 +27,8 @@ module _ (amount : Amount) where
 
       there : (j : ℕ) → (i ≡ j → ⊥) → amount-at amount f t j ≡ amount-at amount f (raised t s i q) j
       there j ne =
-          let bought = raised-elsewhere t s i q Bid j ne in
-          let sold = raised-elsewhere t s i q Offer j ne in
+          let bought = raised-there t s i q Bid j ne in
+          let sold = raised-there t s i q Offer j ne in
           cc
 
   pub summed-raised : (f : ℕ → ℕ) (t : Totals) (s : Side) (i q : ℕ) → i < 16 → summed amount f (raised t s i q) + amount-at amount f t i ≡ summed amount f t + amount-at amount f (raised t s i q) i
@@ -48,9 +43,6 @@ module _ (amount : Amount) where
 module _ (amount : Amount) (none : (factor : ℕ) → amount factor 0 0 ≡ 0) where
   pub summed-none : No-lots-no-charge (summed amount)
   summed-none f = sum-zero 16 (amount-at amount f no-lots) (λ i. none (f i))
-
-  pub summed-of-none : (f : ℕ → ℕ) (t : Totals) → ((s : Side) (i : ℕ) → t s i ≡ 0) → summed amount f t ≡ 0
-  summed-of-none f t empty = ap (summed amount f) (fun-ext (λ s. fun-ext (λ i. empty s i))) ∙ summed-none f
 
 module _ (amount : Amount) (none : (factor : ℕ) → amount factor 0 0 ≡ 0) (rise : Amount-rise-bounded amount) where
   pub amount-raised : (f : ℕ → ℕ) (t : Totals) (s : Side) (i q : ℕ) → amount-at amount f (raised t s i q) i ≤ amount-at amount f t i + 2 * (f i * q)

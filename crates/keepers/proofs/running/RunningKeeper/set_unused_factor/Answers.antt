@@ -1,4 +1,4 @@
-use mathlib.Core.Path.{_≡_, sym, ap, _∙_}
+use mathlib.Core.Path.{_∙_}
 use Rattle.keepers.proofs.KeptNeeds.{need-after-set-factor}
 use Rattle.keepers.proofs.running.RunningKeeper.set_unused_factor.Needs as need
 

@@ -8,3 +8,15 @@ pub enum Side {
     /// Receives the fixed rate: its lots are sold.
     Offer,
 }
+
+/// A pending order: one that waits to be met.
+#[derive(Clone, Copy, PartialEq, Eq, Debug)]
+pub struct Order {
+    /// In ten-thousandths of a per cent; rates may be below 0.
+    pub rate: i32,
+    /// Orders are numbered as they are accepted, from 1: the lower number came first.
+    pub number: u16,
+    pub member: u8,
+    /// What is left of it.
+    pub lots: u16,
+}

@@ -9,6 +9,15 @@ pub enum Side {
     Offer,
 }
 
+/// How long an order waits.
+#[derive(Clone, Copy, PartialEq, Eq, Debug)]
+pub enum Term {
+    /// What is not met at once waits until the close.
+    Day,
+    /// What is not met at once is cancelled.
+    Immediate,
+}
+
 /// A pending order: one that waits to be met.
 #[derive(Clone, Copy, PartialEq, Eq, Debug)]
 pub struct Order {

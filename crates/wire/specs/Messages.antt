@@ -29,6 +29,7 @@ abbrev pub values : Fields → List ℕ
 values f =
     f .code ∷ f .member ∷ f .instrument ∷ f .side ∷ f .term ∷ f .lots ∷ f .rate ∷ f .spare ∷ []
 
+-- Each field by its place and width; the places are what the widths after it take up.
 abbrev pub fields-in : ℕ → Fields
 fields-in word =
     record {
@@ -72,13 +73,25 @@ rate-fits (negsuc n) = ltb n 524288
 
 -- ---- a call and its fields
 
+-- Both cancels use the member's field, and one of them the field of lots.
+abbrev pub cancel-fields : ℕ → ℕ → ℕ → Fields
+cancel-fields code member number =
+    record {
+      code = code;
+      member = member;
+      instrument = 0;
+      side = 0;
+      term = 0;
+      lots = number;
+      rate = 0;
+      spare = 0;
+    }
+
 abbrev pub fields-of : Request → Fields
 fields-of (Place member instrument side term rate lots) =
     record { code = 1; member = member; instrument = instrument; side = side-bit side; term = term-bit term; lots = lots; rate = rate-bits rate; spare = 0 }
-fields-of (Cancel member number) =
-    record { code = 2; member = member; instrument = 0; side = 0; term = 0; lots = number; rate = 0; spare = 0 }
-fields-of (CancelAll member) =
-    record { code = 3; member = member; instrument = 0; side = 0; term = 0; lots = 0; rate = 0; spare = 0 }
+fields-of (Cancel member number) = cancel-fields 2 member number
+fields-of (CancelAll member) = cancel-fields 3 member 0
 
 -- A call is legal if every value fits its field.
 abbrev pub legal : Request → Bool

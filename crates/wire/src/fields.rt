@@ -5,7 +5,7 @@ ghost use Rattle.std.specs.Vec.{made};
 ghost use Rattle.std.specs.declared.result.Result.the-variants.{Ok, Err};
 ghost use Rattle.wire.specs.declared.request.MessageRefusal.the-variants.{NotLegal};
 ghost use Rattle.wire.specs.Fields.{field, join, Fit};
-ghost use Rattle.wire.specs.Messages.{layout, values, fields-in, fields-of, legal, place-of, request-of, side-bit, term-bit, rate-bits, rate-of, rate-fits};
+ghost use Rattle.wire.specs.Messages.{layout, values, fields-in, cancel-fields, fields-of, legal, place-of, request-of, side-bit, term-bit, rate-bits, rate-of, rate-fits};
 use crate::layout::Fields;
 use crate::request::MessageRefusal;
 use crate::request::Request;
@@ -106,6 +106,21 @@ impl Fields {
         }
     }
 
+    fn of_cancel(code: u64, member: u8, number: u16) -> Self
+        ensures { λ r. ⌜ r ≡ cancel-fields code member number ⌝ }
+    {
+        Fields {
+            code,
+            member: u64::from(member),
+            instrument: 0,
+            side: 0,
+            term: 0,
+            lots: u64::from(number),
+            rate: 0,
+            spare: 0,
+        }
+    }
+
     // The fields of a call, if every value fits its own.
     pub(crate) fn of_request(request: &Request) -> Result<Self, MessageRefusal>
         ensures answer { λ r. ⌜ r ≡ cond (legal (now (request .entry))) (Ok (fields-of (now (request .entry)))) (Err NotLegal) ⌝ }
@@ -134,28 +149,8 @@ impl Fields {
                     spare: 0,
                 }
             }
-            Request::Cancel { member, number } => Fields {
-                code: 2,
-                member: u64::from(member),
-                instrument: 0,
-                side: 0,
-                term: 0,
-                lots: u64::from(number),
-                rate: 0,
-                spare: 0,
-            },
-            Request::CancelAll { member } => {
-                Fields {
-                    code: 3,
-                    member: u64::from(member),
-                    instrument: 0,
-                    side: 0,
-                    term: 0,
-                    lots: 0,
-                    rate: 0,
-                    spare: 0,
-                }
-            }
+            Request::Cancel { member, number } => Fields::of_cancel(2, member, number),
+            Request::CancelAll { member } => Fields::of_cancel(3, member, 0),
         };
         if fields.member >= 32 {
             return Err(MessageRefusal::NotLegal);

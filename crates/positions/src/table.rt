@@ -20,7 +20,7 @@ impl<const REACH: u32> LotsTable<REACH> {
     pub fn fresh() -> Self
         ensures { λ r. ⌜ sheet-of r ≡ fresh-sheet ⌝ }
     {
-        Self::of(InstrumentLots::blank())
+        Self::filled_with(InstrumentLots::blank())
     }
 
     /// Gives an instrument its factor, once.
@@ -126,7 +126,7 @@ impl<const REACH: u32> LotsTable<REACH> {
 }
 
 impl<const REACH: u32> LotsTable<REACH> {
-    fn of(blank: InstrumentLots<REACH>) -> Self
+    fn filled_with(blank: InstrumentLots<REACH>) -> Self
         requires factor { ⌜ blank .factor ≡ 0 ⌝ }
         requires lots { ⌜ lots-in blank ≡ no-lots ⌝ }
         ensures { λ r. ⌜ sheet-of r ≡ fresh-sheet ⌝ }

@@ -18,6 +18,10 @@ Better-rate Offer r s = r <ℤ s
 abbrev pub Precedes : Side → Order → Order → Type 0
 Precedes side a b = Better-rate side (a .rate) (b .rate) ⊎ ((a .rate ≡ b .rate) × (a .number < b .number))
 
+-- What precedence does not tell apart.
+abbrev pub Alike : Order → Order → Type 0
+Alike a b = (a .rate ≡ b .rate) × (a .number ≡ b .number)
+
 -- The same as a test.
 abbrev pub better-rate : Side → ℤ → ℤ → Bool
 better-rate Bid r s = ltZ s r

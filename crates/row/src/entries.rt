@@ -1,7 +1,7 @@
 ghost use mathlib.Core.Path.{_≡_};
 ghost use lib.Dec.{ltb};
 ghost use Rattle.terms.specs.declared.Side.the-variants.{Bid as BidSide, Offer as OfferSide};
-ghost use Rattle.row.specs.Rates.{Precedes as Stands-before, precedes as stands-before};
+ghost use Rattle.row.specs.Rates.{Precedes as Stands-before, Alike as Same-place, precedes as stands-before};
 use crate::precedence::Precedence;
 use terms::Order;
 use terms::OrderDebug;
@@ -18,6 +18,8 @@ pub struct Offer(pub Order);
 pub impl Precedence for Bid as BidPrecedence {
     ghost Precedes = { λ a b. Stands-before BidSide (a .0) (b .0) };
 
+    ghost Alike = { λ a b. Same-place (a .0) (b .0) };
+
     ghost test = { λ a b. stands-before BidSide (a .0) (b .0) };
 
     fn precedes(&self, other: &Self) -> bool {
@@ -32,6 +34,8 @@ pub impl Precedence for Bid as BidPrecedence {
 
 pub impl Precedence for Offer as OfferPrecedence {
     ghost Precedes = { λ a b. Stands-before OfferSide (a .0) (b .0) };
+
+    ghost Alike = { λ a b. Same-place (a .0) (b .0) };
 
     ghost test = { λ a b. stands-before OfferSide (a .0) (b .0) };
 

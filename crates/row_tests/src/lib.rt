@@ -100,11 +100,12 @@ mod tests {
     #[test]
     fn remove_takes_out_one_at_either_end_and_in_the_middle() -> Result<(), Fail> {
         let mut row = [bid(4, 1), bid(3, 2), bid(2, 3), bid(1, 4)];
-        check_eq(remove(&mut row, 3, 1), Ok(bid(3, 2)))?;
+        check_eq(remove(&mut row, 4, 3), Ok(bid(1, 4))).note("the last")?;
+        check_eq(remove(&mut row, 3, 1), Ok(bid(3, 2))).note("in the middle")?;
         check_eq(row, [bid(4, 1), bid(2, 3), bid(2, 3), bid(1, 4)]).note(
-            "the place that falls free, and the one behind it, stay",
+            "what falls free stays as it was",
         )?;
-        check_eq(remove(&mut row, 2, 0), Ok(bid(4, 1)))?;
+        check_eq(remove(&mut row, 2, 0), Ok(bid(4, 1))).note("the first")?;
         check_eq(first(&row, 1), Ok(Some(bid(2, 3))))?;
         check_eq(remove(&mut row, 1, 0), Ok(bid(2, 3)))?;
         check_eq(first(&row, 0), Ok(None))

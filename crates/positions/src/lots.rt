@@ -2,10 +2,13 @@ ghost use mathlib.Core.Path.{_≡_};
 ghost use Prim.Native.Nat.{ℕ, _≤_};
 ghost use lib.ListN.{getD, length};
 
+/// Members are 0 to 31.
 pub const MEMBERS: usize = 32;
 
+/// Instruments are 0 to 15.
 pub(crate) const INSTRUMENTS: usize = 16;
 
+/// In rupees a lot.
 pub(crate) const HIGHEST_FACTOR: u32 = 100_000;
 
 /// One member's lots in one instrument, with the instrument's factor.
@@ -25,6 +28,7 @@ pub struct AmountChange {
 }
 
 /// One instrument: its factor, 0 for none, and the lots that each member bought and sold.
+/// There are none where there is no factor.
 #[derive(Clone, Copy)]
 pub struct InstrumentLots<const REACH: u32> {
     pub(crate) factor: u32,
@@ -39,7 +43,7 @@ pub struct InstrumentLots<const REACH: u32> {
     ghost sold_with_factor: { (m : ℕ) → factor ≡ 0 → getD sold m 0 ≡ 0 },
 }
 
-/// Factors and lots, as every keeper of this crate holds them.
+/// Factors and lots, as the shipped keepers hold them. `REACH` is the most lots that one total may come to.
 #[derive(Drop)]
 pub struct LotsTable<const REACH: u32> {
     pub(crate) instruments: [InstrumentLots<REACH>; INSTRUMENTS],

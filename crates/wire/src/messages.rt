@@ -56,7 +56,7 @@ pub extern "C" fn pungetsai_check_message(message: &[u8]) -> u8
     }
 }
 
-// Every call passes here, so the round trips and the worked messages are proved here for all of them.
+// Every way through `read` passes here, so the round trips and the worked messages are proved here once.
 fn check_length(message: &[u8]) -> Result<(), MessageRefusal>
     ensures answer { λ r. ⌜ r ≡ cond (eqb (length (now (message .entry))) 8) (Ok tt) (Err NotEightBytes) ⌝ }
     ensures round_trips { λ _. ⌜ Round-trips ⌝ }

@@ -1,5 +1,7 @@
 //! The book: all pending orders of a venue, in one ordered row of at most 256.
 
+#![tactic(auto)]
+
 pub mod books;
 pub mod entry;
 mod listing;

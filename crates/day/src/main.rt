@@ -1,5 +1,7 @@
 //! A day at the venue, told step by step.
 
+#![tactic(auto)]
+
 mod script;
 mod show;
 

@@ -1,5 +1,7 @@
 //! A small morning at three margin keepers, told step by step.
 
+#![tactic(auto)]
+
 mod desk;
 mod script;
 mod show;

@@ -1,5 +1,7 @@
 //! Examples of what the keepers answer, and the edges of every refusal.
 
+#![tactic(auto)]
+
 #[cfg(test)]
 mod tests {
     use keepers::gross::GrossKeeper;

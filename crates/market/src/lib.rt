@@ -1,5 +1,7 @@
 //! The words of the market, and in `specs/` its rules: what each call answers, tells and makes of a venue.
 
+#![tactic(auto)]
+
 pub mod calls;
 pub mod events;
 pub mod instruments;

@@ -1,5 +1,7 @@
 //! Factors and lots as the shipped keepers hold them, and what a tariff charges on them.
 
+#![tactic(auto)]
+
 mod instrument;
 pub mod lots;
 pub mod table;

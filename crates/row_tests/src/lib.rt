@@ -1,5 +1,7 @@
 //! Examples of rows of bids and offers, and the edges of every refusal.
 
+#![tactic(auto)]
+
 #[cfg(test)]
 mod tests {
     use row::entries::{Bid, Offer};

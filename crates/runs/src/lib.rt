@@ -1,5 +1,7 @@
 //! Runs of calls: the ledger of a run, what is promised of every run, and the proof.
 
+#![tactic(auto)]
+
 ghost use Rattle.std.specs.Prelude.{◌≡◌};
 ghost use Rattle.runs.specs.Promises.{SoundOverEveryKeeper};
 

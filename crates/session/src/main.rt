@@ -1,5 +1,7 @@
 //! A session: messages from standard input are submitted to a venue with three members, and what comes of each is printed.
 
+#![tactic(auto)]
+
 mod output;
 mod set_up;
 

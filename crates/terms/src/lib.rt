@@ -1,5 +1,7 @@
 //! The words that every other crate needs.
 
+#![tactic(auto)]
+
 /// The side of an interest rate swap that a member takes.
 #[derive(Clone, Copy, PartialEq, Eq, Debug)]
 pub enum Side {

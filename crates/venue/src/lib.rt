@@ -1,5 +1,7 @@
 //! The venue: its calls and questions, over any margin keeper.
 
+#![tactic(auto)]
+
 mod cancels;
 mod comparing;
 mod deposits;

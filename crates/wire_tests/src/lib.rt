@@ -1,5 +1,7 @@
 //! Examples of messages, and the edges of every refusal.
 
+#![tactic(auto)]
+
 #[cfg(test)]
 mod tests {
     use std::process::Abort;

@@ -1,5 +1,7 @@
 //! Worked examples of the market's rules, and the worked session as a log of calls.
 
+#![tactic(auto)]
+
 ghost use Rattle.std.specs.Prelude.{◌≡◌};
 ghost use Rattle.worked.specs.Examples.{WorkedExamples};
 ghost use Rattle.worked.specs.Session.{session_calls};

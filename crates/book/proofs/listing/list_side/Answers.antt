@@ -8,7 +8,7 @@ use Rattle.book.specs.declared.entry.Entry.{Entry}
 use Rattle.book.specs.Reads.{order_of, stands_at, rows_in, blank_entry}
 use Rattle.book.proofs.Loops.{list_more, not_listed, listed_row, rows_length}
 use Rattle.book.proofs.listing.list_side.Goals as goal
-use Rattle.book.proofs.listing.list_side.Goals.{then-is-at, else-is-at}
+use Rattle.book.proofs.listing.list_side.Goals.{then-is_at, else-is_at}
 
 pub loop-i-init : goal.loop-i-init
 loop-i-init c = wrote_none c.args.list.now c.args.from (omega arith)
@@ -21,15 +21,15 @@ room_for_one side i xs k n m l there =
     omega (arith, rows_length side i xs (k + 1) n (omega arith))
 
 pub bounds-list-place : goal.bounds-list-place
-bounds-list-place c = omega (arith, c.loop-i.invariant.count, c.loop-i.auto.list, room_for_one c.args.side c.args.instrument c.args.entries.now c.loop-i.i c.args.n (omega arith) c.loop-i-test.true (sym c.is-at.ensures ∙ c.if-is-at.true), length-map (rows_in (take c.loop-i.i c.args.entries.now) c.args.side c.args.instrument) (listed c.args.side))
+bounds-list-place c = omega (arith, c.loop-i.invariant.count, c.loop-i.auto.list, room_for_one c.args.side c.args.instrument c.args.entries.now c.loop-i.i c.args.n (omega arith) c.loop-i-test.true (sym c.is_at.ensures ∙ c.if-is_at.true), length-map (rows_in (take c.loop-i.i c.args.entries.now) c.args.side c.args.instrument) (listed c.args.side))
 
 pub loop-i-preserved : goal.loop-i-preserved
 loop-i-preserved c =
     let xs = c.args.entries.now in
     let k = c.loop-i.i in
-    elim c.if-is-at.branch [
-      | then-is-at w ↦ rw (w.list-is, w.place-is) (list_more c.args.side c.args.instrument xs k blank_entry (omega arith) c.args.list.now c.loop-i.list c.args.from c.loop-i.place w.listed.result (omega (arith, c.loop-i.invariant.count, c.loop-i.auto.list, room_for_one c.args.side c.args.instrument xs k c.args.n (omega arith) c.loop-i-test.true (sym c.is-at.ensures ∙ w.if-is-at.true), length-map (rows_in (take k xs) c.args.side c.args.instrument) (listed c.args.side))) (sym c.is-at.ensures ∙ w.if-is-at.true) w.listed.ensures c.loop-i.invariant)
-      | else-is-at w ↦ rw (w.list-is, w.place-is) (subst (λ row. Wrote c.args.list.now c.loop-i.list c.args.from c.loop-i.place (map (listed c.args.side) row)) (sym (not_listed c.args.side c.args.instrument xs k blank_entry (omega arith) (sym c.is-at.ensures ∙ w.if-is-at.false))) c.loop-i.invariant)
+    elim c.if-is_at.branch [
+      | then-is_at w ↦ rw (w.list-is, w.place-is) (list_more c.args.side c.args.instrument xs k blank_entry (omega arith) c.args.list.now c.loop-i.list c.args.from c.loop-i.place w.listed.result (omega (arith, c.loop-i.invariant.count, c.loop-i.auto.list, room_for_one c.args.side c.args.instrument xs k c.args.n (omega arith) c.loop-i-test.true (sym c.is_at.ensures ∙ w.if-is_at.true), length-map (rows_in (take k xs) c.args.side c.args.instrument) (listed c.args.side))) (sym c.is_at.ensures ∙ w.if-is_at.true) w.listed.ensures c.loop-i.invariant)
+      | else-is_at w ↦ rw (w.list-is, w.place-is) (subst (λ row. Wrote c.args.list.now c.loop-i.list c.args.from c.loop-i.place (map (listed c.args.side) row)) (sym (not_listed c.args.side c.args.instrument xs k blank_entry (omega arith) (sym c.is_at.ensures ∙ w.if-is_at.false))) c.loop-i.invariant)
     ]
 
 pub returns : goal.returns

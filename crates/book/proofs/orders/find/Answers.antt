@@ -4,8 +4,8 @@ use Rattle.std.proofs.lemmas.Bool.{cond-false}
 use Rattle.book.specs.Reads.{stands_at, blank_entry}
 use Rattle.book.proofs.orders.find.Goals as goal
 
-pub returns-then-is-at : goal.returns-then-is-at
-returns-then-is-at c = record { within = c.loop-i-test.true; there = sym c.is-at.ensures ∙ c.if-is-at.true; none_before = c.loop-i.invariant }
+pub returns-then-is_at : goal.returns-then-is_at
+returns-then-is_at c = record { within = c.loop-i-test.true; there = sym c.is_at.ensures ∙ c.if-is_at.true; none_before = c.loop-i.invariant }
 
 pub loop-i-preserved : goal.loop-i-preserved
 loop-i-preserved c =
@@ -13,4 +13,4 @@ loop-i-preserved c =
     let test = stands_at c.args.side c.args.instrument in
     filter_more test c.args.entries.now c.loop-i.i blank_entry (omega arith)
     ∙ ap (λ z. z ++ cond (test x) (x ∷ []) []) c.loop-i.invariant
-    ∙ cond-false (test x) (x ∷ []) [] (sym c.is-at.ensures ∙ c.if-is-at.false)
+    ∙ cond-false (test x) (x ∷ []) [] (sym c.is_at.ensures ∙ c.if-is_at.false)

@@ -11,10 +11,10 @@ returns-then-one-other c =
 pub loop-place-init : goal.loop-place-init
 loop-place-init c = λ k h. absurd (omega arith)
 
-pub returns-then-not-shows-the-same : goal.returns-then-not-shows-the-same
-returns-then-not-shows-the-same c = (
+pub returns-then-not-shows_the_same : goal.returns-then-not-shows_the_same
+returns-then-not-shows_the_same c = (
   (λ e. absurd (false≢true e)),
-  (λ alike. c.if-not-shows-the-same.ensures.1 (alike_at c.args.one.now c.args.other.now c.loop-place.place alike)),
+  (λ alike. c.if-not-shows_the_same.ensures.1 (alike_at c.args.one.now c.args.other.now c.loop-place.place alike)),
 )
 
 pub loop-place-preserved : goal.loop-place-preserved
@@ -22,7 +22,7 @@ loop-place-preserved c =
     up_to (λ k. shown (get_or c.args.one.now k no_order) ≡ shown (get_or c.args.other.now k no_order))
     c.loop-place.place
     c.loop-place.invariant
-    (c.if-not-shows-the-same.ensures.0 refl)
+    (c.if-not-shows_the_same.ensures.0 refl)
 
 pub returns : goal.returns
 returns c = (

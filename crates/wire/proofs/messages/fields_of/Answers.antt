@@ -7,4 +7,4 @@ use Rattle.wire.proofs.messages.fields_of.Goals as goal
 
 pub returns : goal.returns
 returns c =
-    record { value = c.of-word.ensures; fit = subst (λ (f : Fields). Fit layout (values f)) (sym c.of-word.ensures) (split_fits layout c.args.word) }
+    record { value = c.of_word.ensures; fit = subst (λ (f : Fields). Fit layout (values f)) (sym c.of_word.ensures) (split_fits layout c.args.word) }

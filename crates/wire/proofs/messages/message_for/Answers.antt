@@ -12,10 +12,10 @@ pub returns-then-size-ne8 : goal.returns-then-size-ne8
 returns-then-size-ne8 c =
     record { answer = sym (cond-false _ _ _ (ne_eqb c.args.size 8 c.if-size-ne8.true)); sized = tt; round_trips = round_trips }
 
-pub returns-in-err-fields : goal.returns-in-err-fields
-returns-in-err-fields c =
+pub returns-in_err-fields : goal.returns-in_err-fields
+returns-in_err-fields c =
     let p = err_from_is_err_and c.from-residual.result c.from-residual.ensures.1 in
-    let told = told_err (legal c.args.request.now) _ _ (fields_of c.args.request.now) c.in-err-fields.ensures.answer in
+    let told = told_err (legal c.args.request.now) _ _ (fields_of c.args.request.now) c.in_err-fields.ensures.answer in
     let refusal : c.from-residual.result ≡ Err NotLegal = p.1 ∙ ap Err (p.2 ∙ told.1) in
     record {
       answer = refusal ∙ sym (cond-true _ _ _ (eq-eqb c.args.size 8 c.if-size-ne8.false) ∙ cond-false _ _ _ told.0);
@@ -26,11 +26,11 @@ returns-in-err-fields c =
 pub returns : goal.returns
 unfolding message_of
 returns c =
-    let told = told_ok (legal c.args.request.now) c.in-ok-fields.fields (fields_of c.args.request.now) _ c.in-ok-fields.ensures.answer in
+    let told = told_ok (legal c.args.request.now) c.in_ok-fields.fields (fields_of c.args.request.now) _ c.in_ok-fields.ensures.answer in
     let word = c.word.ensures ∙ ap (λ (f : Fields). join layout (values f)) told.1 in
-    let message = c.bytes-of.ensures ∙ ap (split eight_bytes) word in
+    let message = c.bytes_of.ensures ∙ ap (split eight_bytes) word in
     record {
       answer = ap Ok message ∙ sym (cond-true _ _ _ (eq-eqb c.args.size 8 c.if-size-ne8.false) ∙ cond-true _ _ _ told.0);
-      sized = c.if-size-ne8.false ∙ sym (ap length c.bytes-of.ensures);
+      sized = c.if-size-ne8.false ∙ sym (ap length c.bytes_of.ensures);
       round_trips = round_trips;
     }

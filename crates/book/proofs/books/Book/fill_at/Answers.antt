@@ -8,8 +8,8 @@ use Rattle.book.proofs.Places.{take_removed, take_filled, book_stands}
 use Rattle.book.proofs.Standing.{stands_from, stands_set_lots, stands_without}
 use Rattle.book.proofs.books.Book.fill_at.Goals as goal
 
-pub invariant-of-self : goal.invariant-of-self
-invariant-of-self c =
+pub invariant_of-self : goal.invariant_of-self
+invariant_of-self c =
     let book = c.args.self.now in
     let xs = take book.count book.entries in (
       length-set book.entries c.args.place c.with_lots.result ∙ book.size,
@@ -22,8 +22,8 @@ invariant-of-self c =
       ),
     )
 
-pub invariant-of-self-else-lots-first : goal.invariant-of-self-else-lots-first
-invariant-of-self-else-lots-first c =
+pub invariant_of-self-else-lots-first : goal.invariant_of-self-else-lots-first
+invariant_of-self-else-lots-first c =
     let book = c.args.self.now in
     let size = book.size in
     let room = book.room in (

@@ -7,4 +7,4 @@ use Rattle.book.proofs.books.Book.fill_first.Goals as goal
 pub returns-in-Some : goal.returns-in-Some
 returns-in-Some c =
     let book = c.args.self.now in
-    ap rows_in c.fill-at.ensures ∙ rows_filled_at c.args.side c.args.instrument book.count book.entries c.in-Some.place (let s = book.size in let r = book.room in omega arith) c.in-Some.ensures c.args.lots
+    ap rows_in c.fill_at.ensures ∙ rows_filled_at c.args.side c.args.instrument book.count book.entries c.in-Some.place (let s = book.size in let r = book.room in omega arith) c.in-Some.ensures c.args.lots

@@ -7,8 +7,8 @@ use Rattle.book.proofs.Rows.{rows_kept}
 use Rattle.book.proofs.Standing.{stands_from, stands_kept}
 use Rattle.book.proofs.books.Book.leave_out.Goals as goal
 
-pub invariant-of-self : goal.invariant-of-self
-invariant-of-self c =
+pub invariant_of-self : goal.invariant_of-self
+invariant_of-self c =
     let book = c.args.self.now in
     let room = book.room in (
       c.keep-kept.auto.entries ∙ book.size,

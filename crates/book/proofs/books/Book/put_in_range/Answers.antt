@@ -7,8 +7,8 @@ use Rattle.book.proofs.Rows.{rows_inserted}
 use Rattle.book.proofs.Standing.{stands_from, stands_inserted}
 use Rattle.book.proofs.books.Book.put_in_range.Goals as goal
 
-pub invariant-of-self : goal.invariant-of-self
-invariant-of-self c =
+pub invariant_of-self : goal.invariant_of-self
+invariant_of-self c =
     let book = c.args.self.now in
     let counted = count_is book in
     let size = book.size in

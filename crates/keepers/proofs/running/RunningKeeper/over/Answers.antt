@@ -3,5 +3,5 @@ use Rattle.positions.proofs.Sheets.{zero_at}
 use Rattle.keepers.proofs.KeptNeeds.{fresh_need}
 use Rattle.keepers.proofs.running.RunningKeeper.over.Goals as goal
 
-pub invariant-of-result : goal.invariant-of-result
-invariant-of-result c = (λ m. zero_at 32 m ∙ sym (fresh_need c.args.table c.requires m), tt)
+pub invariant_of-result : goal.invariant_of-result
+invariant_of-result c = (λ m. zero_at 32 m ∙ sym (fresh_need c.args.table c.requires m), tt)

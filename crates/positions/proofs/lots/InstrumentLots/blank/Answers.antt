@@ -2,8 +2,8 @@ use Rattle.std.proofs.Common.{refl, arith}
 use Rattle.positions.proofs.Sheets.{no_lots_from, zero_at}
 use Rattle.positions.proofs.lots.InstrumentLots.blank.Goals as goal
 
-pub invariant-of-result : goal.invariant-of-result
-invariant-of-result g c = (
+pub invariant_of-result : goal.invariant_of-result
+invariant_of-result g c = (
   refl,
   (
     refl,

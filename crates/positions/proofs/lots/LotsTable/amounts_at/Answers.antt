@@ -8,11 +8,11 @@ use Rattle.positions.proofs.Moves.{need_moves}
 use Rattle.positions.proofs.Sheets.{can_record_from, sheet_lawful}
 use Rattle.positions.proofs.lots.LotsTable.amounts_at.Goals as goal
 
-pub returns-in-err-grown : goal.returns-in-err-grown
-returns-in-err-grown g c =
+pub returns-in_err-grown : goal.returns-in_err-grown
+returns-in_err-grown g c =
     let inside : c.args.i < length c.args.self.now.instruments = search rules in
     let cannot : can_record g.row.REACH (sheet_of c.args.self.now) c.args.m c.args.i c.args.side c.args.lots ≡ false =
-    can_record_from c.args.self.now.instruments c.args.i c.index-self-i.result (omega arith) inside g.row.REACH c.args.m c.args.side c.args.lots false (omega arith) c.in-err-grown.ensures.answer in
+    can_record_from c.args.self.now.instruments c.args.i c.index-self-i.result (omega arith) inside g.row.REACH c.args.m c.args.side c.args.lots false (omega arith) c.in_err-grown.ensures.answer in
     let refusal = only_refusal c.from-residual.result c.from-residual.ensures.0 in
     record {
       answer = ap is_ok refusal ∙ sym cannot;
@@ -24,13 +24,13 @@ pub returns : goal.returns
 returns g c =
     let inside : c.args.i < length c.args.self.now.instruments = search rules in
     let can : can_record g.row.REACH (sheet_of c.args.self.now) c.args.m c.args.i c.args.side c.args.lots ≡ true =
-    can_record_from c.args.self.now.instruments c.args.i c.index-self-i.result (omega arith) inside g.row.REACH c.args.m c.args.side c.args.lots true (omega arith) c.in-ok-grown.ensures.answer in
+    can_record_from c.args.self.now.instruments c.args.i c.index-self-i.result (omega arith) inside g.row.REACH c.args.m c.args.side c.args.lots true (omega arith) c.in_ok-grown.ensures.answer in
     let before = c.amount-before.ensures
     ∙ amount_now g.T.Tariff.charged c.args.self.now.instruments c.args.i c.index-self-i-2.result (omega arith) inside
     c.args.m c.position.result c.position.ensures in
     let after = c.amount-after.ensures
     ∙ amount_with g.T.Tariff.charged c.args.self.now.instruments c.args.i c.index-self-i.result (omega arith) inside
-    c.args.m c.args.side c.args.lots c.in-ok-grown.grown c.in-ok-grown.ensures.value in
+    c.args.m c.args.side c.args.lots c.in_ok-grown.grown c.in_ok-grown.ensures.value in
     record {
       answer = sym can;
       value = amounts_done g.T.Tariff.charged c.args.self.now.instruments c.args.i c.index-self-i.result (omega arith) inside

@@ -26,8 +26,8 @@ turn g c =
     let few = amount_at_bounded amount g.met.T.Tariff.no_lots_no_amount g.met.T.Tariff.amount_rise_bounded g.row.REACH (omega (arith, g.REACH.fits)) (sheet_of c.args.self.now) (sheet_lawful c.args.self.now) c.args.m i in
     (here, omega arith)
 
-pub overflow-add-sum : goal.overflow-add-sum
-overflow-add-sum g c = omega (arith, (turn g c).1)
+pub overflow_add-sum : goal.overflow_add-sum
+overflow_add-sum g c = omega (arith, (turn g c).1)
 
 pub loop-instrument-preserved : goal.loop-instrument-preserved
 loop-instrument-preserved g c =

@@ -7,7 +7,7 @@ returns g c =
     let inside : c.args.i < length c.args.self.now.instruments = search rules in
     let can = can_set_factor_at c.args.self.now.instruments c.args.i c.index-self-i.result (omega arith) inside c.args.factor in
     record {
-      answer = c.set-factor.ensures.answer ∙ sym can;
+      answer = c.set_factor.ensures.answer ∙ sym can;
       after = sheet_after_set_factor c.args.self.now.instruments c.args.i c.index-self-i.result (omega arith) inside
-          c.set-factor.new.self c.args.factor c.set-factor.ensures.factor c.set-factor.ensures.lots;
+          c.set_factor.new.self c.args.factor c.set_factor.ensures.factor c.set_factor.ensures.lots;
     }

@@ -8,13 +8,13 @@ use Rattle.venue.proofs.Checks.{long_enough}
 use Rattle.venue.proofs.Places.{obeys_accepted}
 use Rattle.venue.proofs.state.Venue.cancel_of.Goals as goal
 
-pub cancel-picked-requires : goal.cancel-picked-requires
-cancel-picked-requires g c =
+pub cancel_picked-requires : goal.cancel_picked-requires
+cancel_picked-requires g c =
     let book = c.args.self.now.book in
     let room = book.room in
     omega (arith, long_enough (length c.args.events.now) (drop 1 (cancel_all_grounds (length c.args.events.now) (market_of g.K.Keeper.sheet c.args.self.now) c.args.member)) c.requires, count_is book)
 
 pub returns : goal.returns
 returns g c =
-    let did = c.cancel-picked.ensures.did in
-    obeys_accepted g.K.Keeper.charge g.K.Keeper.reach (CancelAll c.args.member) (market_of g.K.Keeper.sheet c.args.self.now) (market_of g.K.Keeper.sheet c.cancel-picked.new.self) (CancelledCount c.cancel-picked.result) c.args.events.now c.cancel-picked.new.events c.cancel-picked.result c.requires did.market_is refl did.wrote
+    let did = c.cancel_picked.ensures.did in
+    obeys_accepted g.K.Keeper.charge g.K.Keeper.reach (CancelAll c.args.member) (market_of g.K.Keeper.sheet c.args.self.now) (market_of g.K.Keeper.sheet c.cancel_picked.new.self) (CancelledCount c.cancel_picked.result) c.args.events.now c.cancel_picked.new.events c.cancel_picked.result c.requires did.market_is refl did.wrote

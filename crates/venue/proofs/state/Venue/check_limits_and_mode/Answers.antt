@@ -14,4 +14,4 @@ pub returns-in-Ok : goal.returns-in-Ok
 returns-in-Ok g c =
     let M = market_of g.K.Keeper.sheet c.args.self.now in
     let new = c.args.new.now in
-    c.check-mode.ensures ∙ checked_next (limit_grounds g.K.Keeper.charge g.K.Keeper.reach M new) (mode_grounds g.K.Keeper.charge g.K.Keeper.reach M new) tt c.in-Ok.ensures
+    c.check_mode.ensures ∙ checked_next (limit_grounds g.K.Keeper.charge g.K.Keeper.reach M new) (mode_grounds g.K.Keeper.charge g.K.Keeper.reach M new) tt c.in-Ok.ensures

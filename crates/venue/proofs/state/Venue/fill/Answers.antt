@@ -16,8 +16,8 @@ judge-placing-requires g c =
     let after = ap pending_count c.trade.ensures.market in
     omega (arith, c.tell-told.ensures.count, c.tell-told.auto.events, c.requires.1)
 
-pub tell-rest-told-requires : goal.tell-rest-told-requires
-tell-rest-told-requires g c =
+pub tell_rest-told-requires : goal.tell_rest-told-requires
+tell_rest-told-requires g c =
     let few = trade_few g.K.Keeper.reach (market_of g.K.Keeper.sheet c.args.self.now) c.args.new.now c.args.pending.now c.args.rest c.min-lots.result c.requires.0.0 c.requires.0.1 c.min-lots.ensures c.requires.2 in
     let after = ap pending_count c.trade.ensures.market in
     omega (arith, c.tell-told.ensures.count, c.tell-told.auto.events, c.judge-placing.ensures.few, c.judge-placing.auto.events, c.requires.1)
@@ -27,7 +27,7 @@ judge-other-requires g c =
     let few = trade_few g.K.Keeper.reach (market_of g.K.Keeper.sheet c.args.self.now) c.args.new.now c.args.pending.now c.args.rest c.min-lots.result c.requires.0.0 c.requires.0.1 c.min-lots.ensures c.requires.2 in
     let after = ap pending_count c.trade.ensures.market in
     let one = rest_few c.args.number c.args.new.now TurnedToReduction (c.args.rest - c.min-lots.result) in
-    omega (arith, c.tell-told.ensures.count, c.tell-told.auto.events, c.judge-placing.ensures.few, c.judge-placing.auto.events, c.tell-rest-told.ensures.count, c.tell-rest-told.auto.events, c.requires.1)
+    omega (arith, c.tell-told.ensures.count, c.tell-told.auto.events, c.judge-placing.ensures.few, c.judge-placing.auto.events, c.tell_rest-told.ensures.count, c.tell_rest-told.auto.events, c.requires.1)
 
 pub returns-then-placing : goal.returns-then-placing
 returns-then-placing g c =
@@ -38,11 +38,11 @@ returns-then-placing g c =
     record {
       turned =
           filled_first g.K.Keeper.charge g.K.Keeper.reach c.args.number c.args.new.now M (market_of g.K.Keeper.sheet c.trade.new.self) (market_of g.K.Keeper.sheet c.judge-placing.new.self) (market_of g.K.Keeper.sheet c.judge-other.new.self) c.args.rest c.min-lots.result c.args.pending.now true
-          c.args.events.now c.tell-told.new.events c.judge-placing.new.events c.tell-rest-told.new.events c.judge-other.new.events c.args.told c.tell-told.result c.judge-placing.result.told c.tell-rest-told.result c.judge-other.result.told
+          c.args.events.now c.tell-told.new.events c.judge-placing.new.events c.tell_rest-told.new.events c.judge-other.new.events c.args.told c.tell-told.result c.judge-placing.result.told c.tell_rest-told.result c.judge-other.result.told
           c.min-lots.ensures c.requires.2 c.trade.ensures.market
           (subst (λ (t : Trade). Wrote c.args.events.now c.tell-told.new.events c.args.told c.tell-told.result (Traded t ∷ [])) c.trade_of.ensures c.tell-told.ensures)
-          c.judge-placing.ensures.did (sym c.if-placing.true ∙ c.judge-placing.ensures.fallen) c.tell-rest-told.ensures c.judge-other.ensures.did;
-      few = omega (arith, c.tell-told.ensures.count, c.judge-placing.ensures.few, c.tell-rest-told.ensures.count, c.judge-other.ensures.few);
+          c.judge-placing.ensures.did (sym c.if-placing.true ∙ c.judge-placing.ensures.fallen) c.tell_rest-told.ensures c.judge-other.ensures.did;
+      few = omega (arith, c.tell-told.ensures.count, c.judge-placing.ensures.few, c.tell_rest-told.ensures.count, c.judge-other.ensures.few);
       going = λ e. absurd (false≢true e);
     }
 

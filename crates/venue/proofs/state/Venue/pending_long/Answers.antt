@@ -6,7 +6,7 @@ use Rattle.market.specs.Limits.{is_over_five_years}
 use Rattle.market.specs.Markets.{pending_in, blank_instrument}
 use Rattle.venue.specs.Reads.{market_of}
 use Rattle.venue.proofs.state.Venue.pending_long.Goals as goal
-use Rattle.venue.proofs.state.Venue.pending_long.Goals.{then-is-long, else-is-long}
+use Rattle.venue.proofs.state.Venue.pending_long.Goals.{then-is_long, else-is_long}
 
 pub loop-i-init : goal.loop-i-init
 unfolding sum_below
@@ -17,9 +17,9 @@ loop-i-preserved g c =
     let M = market_of g.K.Keeper.sheet c.args.self.now in
     let table : ℕ → ℕ = λ i. cond (is_over_five_years (M.instruments i).group) (pending_in M.rows c.args.member i) 0 in
     let more = sum_more c.loop-i.i table in
-    elim c.if-is-long.branch [
-      | then-is-long w ↦ let here = cond-true (is_over_five_years (M.instruments c.loop-i.i).group) (pending_in M.rows c.args.member c.loop-i.i) 0 (sym c.is-long.ensures ∙ w.if-is-long.true) in (omega (arith, w.sum-is, w.pending-sum.ensures.value, c.loop-i.invariant.0), omega (arith, w.sum-is, w.pending-sum.ensures.few, c.loop-i.invariant.1))
-      | else-is-long w ↦ let here = cond-false (is_over_five_years (M.instruments c.loop-i.i).group) (pending_in M.rows c.args.member c.loop-i.i) 0 (sym c.is-long.ensures ∙ w.if-is-long.false) in (omega (arith, w.sum-is, c.loop-i.invariant.0), omega (arith, w.sum-is, c.loop-i.invariant.1))
+    elim c.if-is_long.branch [
+      | then-is_long w ↦ let here = cond-true (is_over_five_years (M.instruments c.loop-i.i).group) (pending_in M.rows c.args.member c.loop-i.i) 0 (sym c.is_long.ensures ∙ w.if-is_long.true) in (omega (arith, w.sum-is, w.pending-sum.ensures.value, c.loop-i.invariant.0), omega (arith, w.sum-is, w.pending-sum.ensures.few, c.loop-i.invariant.1))
+      | else-is_long w ↦ let here = cond-false (is_over_five_years (M.instruments c.loop-i.i).group) (pending_in M.rows c.args.member c.loop-i.i) 0 (sym c.is_long.ensures ∙ w.if-is_long.false) in (omega (arith, w.sum-is, c.loop-i.invariant.0), omega (arith, w.sum-is, c.loop-i.invariant.1))
     ]
 
 pub returns : goal.returns

@@ -4,8 +4,8 @@ use Rattle.venue.specs.Reads.{market_of}
 use Rattle.venue.proofs.Places.{placeable, place_obeys}
 use Rattle.venue.proofs.state.Venue.place_checked.Goals as goal
 
-pub overflow-add-number : goal.overflow-add-number
-overflow-add-number g c =
+pub overflow_add-number : goal.overflow_add-number
+overflow_add-number g c =
     let v = c.args.self.now in
     let room = v.book.room in
     let ok = placeable g.K.Keeper.charge g.K.Keeper.reach (length c.args.events.now) (market_of g.K.Keeper.sheet v) c.args.new.now (omega (arith, count_is v.book)) c.requires in

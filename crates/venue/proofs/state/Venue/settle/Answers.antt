@@ -28,5 +28,5 @@ returns-in-Immediate g c =
     let M = market_of g.K.Keeper.sheet c.args.self.now in
     let rest = c.args.turn.rest in
     let by = cond-true (ltb 0 rest) (rest_settled_by c.args.new.now.term c.args.number c.args.new.now M rest) (quietly M) (lt-ltb 0 rest (omega arith)) ∙ ap (λ (t : Term). rest_settled_by t c.args.number c.args.new.now M rest) c.in-Immediate.is in
-    subst (λ (t : Told). Did t M c.args.events.now c.tell-rest.new.events c.args.turn.told c.tell-rest.result) (sym by)
-    (record { market_is = refl; wrote = c.tell-rest.ensures })
+    subst (λ (t : Told). Did t M c.args.events.now c.tell_rest.new.events c.args.turn.told c.tell_rest.result) (sym by)
+    (record { market_is = refl; wrote = c.tell_rest.ensures })

@@ -10,7 +10,7 @@ source keeps its spelling: `overflow-add-sum` is `overflow_add-sum`, and the ste
 import glob
 import re
 
-WORDS = [("in-err", "in_err"), ("in-ok", "in_ok"), ("in-default", "in_default"), ("invariant-of", "invariant_of"),
+WORDS = [("from-residual", "from_residual"), ("in-err", "in_err"), ("in-ok", "in_ok"), ("in-default", "in_default"), ("invariant-of", "invariant_of"),
          *[(f"{kind}-{what}", f"{kind}_{what}") for kind in ("overflow", "nonzero", "offset", "slice")
            for what in ("add", "sub", "mul", "div", "rem", "shl", "shr", "cast", "neg", "step", "bounds")]]
 TOKEN = re.compile(r"[^\s(){}\[\].,;:=λ`]+")

@@ -31,7 +31,7 @@ refusal when is_met = record { refusal = refusal; is_met = is_met }
 -- The first ground met is the answer.
 abbrev pub checked : List Ground → Result (Unit {0}) Refusal
 checked [] = Ok tt
-checked (ground ∷ grounds) = cond ground.is_met (Err ground.refusal) (checked grounds)
+checked (first ∷ grounds) = cond first.is_met (Err first.refusal) (checked grounds)
 
 -- ---- the tests
 

@@ -14,12 +14,12 @@ returns-then-size-ne8 c =
 
 pub returns-in_err-fields : goal.returns-in_err-fields
 returns-in_err-fields c =
-    let p = err_from_is_err_and c.from-residual.result c.from-residual.ensures.1 in
+    let p = err_from_is_err_and c.from_residual.result c.from_residual.ensures.1 in
     let told = told_err (legal c.args.request.now) _ _ (fields_of c.args.request.now) c.in_err-fields.ensures.answer in
-    let refusal : c.from-residual.result ≡ Err NotLegal = p.1 ∙ ap Err (p.2 ∙ told.1) in
+    let refusal : c.from_residual.result ≡ Err NotLegal = p.1 ∙ ap Err (p.2 ∙ told.1) in
     record {
       answer = refusal ∙ sym (cond-true _ _ _ (eq-eqb c.args.size 8 c.if-size-ne8.false) ∙ cond-false _ _ _ told.0);
-      sized = IfOk-from_err c.from-residual.result (λ message. c.args.size ≡ length message) c.from-residual.ensures.0;
+      sized = IfOk-from_err c.from_residual.result (λ message. c.args.size ≡ length message) c.from_residual.ensures.0;
       round_trips = round_trips;
     }
 

@@ -13,11 +13,11 @@ returns-in_err-grown g c =
     let inside : c.args.i < length c.args.self.now.instruments = search rules in
     let cannot : can_record g.row.REACH (sheet_of c.args.self.now) c.args.m c.args.i c.args.side c.args.lots ≡ false =
     can_record_from c.args.self.now.instruments c.args.i c.index-self-i.result (omega arith) inside g.row.REACH c.args.m c.args.side c.args.lots false (omega arith) c.in_err-grown.ensures.answer in
-    let refusal = only_refusal c.from-residual.result c.from-residual.ensures.0 in
+    let refusal = only_refusal c.from_residual.result c.from_residual.ensures.0 in
     record {
       answer = ap is_ok refusal ∙ sym cannot;
       value = refusal ∙ sym (cond-false _ _ _ cannot);
-      moves = IfOk-from_err c.from-residual.result _ c.from-residual.ensures.0;
+      moves = IfOk-from_err c.from_residual.result _ c.from_residual.ensures.0;
     }
 
 pub returns : goal.returns

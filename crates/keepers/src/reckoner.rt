@@ -3,9 +3,9 @@ ghost use Rattle.margin.specs.Sheets.{fresh_sheet};
 ghost use Rattle.positions.specs.Charges.{summed, standard_amount};
 ghost use Rattle.positions.specs.Reads.{sheet_of};
 ghost use Rattle.positions.proofs.Sheets.{sheet_lawful};
-ghost use Rattle.positions.specs.Amounts.{standard_none, standard_rise};
+ghost use Rattle.positions.proofs.Amounts.{standard_none, standard_rise};
 ghost use Rattle.positions.proofs.Sums.{summed_none, summed_rise};
-ghost use Rattle.std.proofs.Common.{rules};
+ghost use Rattle.std.proofs.Common.{lit≤};
 
 use margin::keeper::Keeper;
 use margin::refusal::KeeperRefusal;
@@ -39,7 +39,7 @@ impl Keeper for Reckoner {
 
     ghost reach = { 100000 };
 
-    ghost reach_in_range = { Prim.search rules };
+    ghost reach_in_range = { (lit≤ tt, lit≤ tt) };
 
     ghost sheet_is_lawful = { λ keeper. sheet_lawful keeper.table };
 

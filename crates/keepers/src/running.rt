@@ -3,10 +3,9 @@ ghost use Rattle.margin.specs.Sheets.{fresh_sheet, can_set_factor, after_set_fac
 ghost use Rattle.positions.specs.Charges.{summed, standard_amount};
 ghost use Rattle.positions.specs.Reads.{sheet_of};
 ghost use Rattle.positions.proofs.Sheets.{sheet_lawful};
-ghost use Rattle.positions.specs.Amounts.{standard_none, standard_rise};
+ghost use Rattle.positions.proofs.Amounts.{standard_none, standard_rise};
 ghost use Rattle.positions.proofs.Sums.{summed_none, summed_rise};
-ghost use borrow.Author.Rules;
-ghost use Rattle.std.proofs.Common.{arith};
+ghost use Rattle.std.proofs.Common.{lit≤};
 
 use margin::keeper::Keeper;
 use margin::refusal::KeeperRefusal;
@@ -76,7 +75,7 @@ impl Keeper for RunningKeeper {
 
     ghost reach = { 100000 };
 
-    ghost reach_in_range = { first_of (Prim.search Needs.needs, Prim.grind (arith, Self.row.coded.inj)) };
+    ghost reach_in_range = { (lit≤ tt, lit≤ tt) };
 
     ghost sheet_is_lawful = { λ keeper. sheet_lawful keeper.table };
 

@@ -1,3 +1,4 @@
+pub mod Amounts
 pub mod Sums
 pub mod Sheets
 pub mod Positions

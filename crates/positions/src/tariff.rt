@@ -1,7 +1,6 @@
 ghost use Rattle.std.specs.Prelude.{◌≡◌, ℕ};
 ghost use Rattle.positions.specs.Charges.{Amount, standard_amount, gross_amount, AmountRiseBounded};
-ghost use Rattle.positions.specs.Amounts.{standard_rise};
-ghost use Rattle.std.proofs.Common.{rules};
+ghost use Rattle.positions.proofs.Amounts.{standard_none, standard_rise, gross_none, gross_rise};
 
 use crate::lots::Position;
 
@@ -28,7 +27,7 @@ pub struct Gross;
 impl Tariff for Standard {
     ghost charged = { standard_amount };
 
-    ghost no_lots_no_amount = { Prim.search rules };
+    ghost no_lots_no_amount = { standard_none };
 
     ghost amount_rise_bounded = { standard_rise };
 
@@ -42,9 +41,9 @@ impl Tariff for Standard {
 impl Tariff for Gross {
     ghost charged = { gross_amount };
 
-    ghost no_lots_no_amount = { Prim.search rules };
+    ghost no_lots_no_amount = { gross_none };
 
-    ghost amount_rise_bounded = { Prim.search rules };
+    ghost amount_rise_bounded = { gross_rise };
 
     fn amount(&self, position: Position) -> u64 {
         2 * (u64::from(position.factor) * (u64::from(position.bought) + u64::from(position.sold)))

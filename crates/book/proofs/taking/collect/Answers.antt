@@ -17,8 +17,8 @@ loop-i-preserved c =
     let i = c.loop-i.i in
     let p = picks c.args.picked.now in
     elim c.if-picks.branch [
-      | then-picks w ↦ rw (w.orders-is, w.count_is) (collected p xs n i blank_entry c.loop-i-test.true c.requires.0 c.loop-i.count c.loop-i.orders w.insert.new.row (omega (arith, c.loop-i.invariant.1, c.loop-i.invariant.2)) c.loop-i.invariant.0 (sym c.picks.ensures ∙ w.if-picks.true) w.insert.ensures.after, omega (arith, c.loop-i.invariant.1), w.insert.auto.row ∙ c.loop-i.invariant.2)
-      | else-picks w ↦ rw (w.orders-is, w.count_is) (not_collected p xs n i blank_entry c.loop-i-test.true c.requires.0 _ c.loop-i.invariant.0 (sym c.picks.ensures ∙ w.if-picks.false), omega (arith, c.loop-i.invariant.1), c.loop-i.invariant.2)
+      | then-picks w ↦ rw (w.orders-is, w.count-is) (collected p xs n i blank_entry c.loop-i-test.true c.requires.0 c.loop-i.count c.loop-i.orders w.insert.new.row (omega (arith, c.loop-i.invariant.1, c.loop-i.invariant.2)) c.loop-i.invariant.0 (sym c.picks.ensures ∙ w.if-picks.true) w.insert.ensures.after, omega (arith, c.loop-i.invariant.1), w.insert.auto.row ∙ c.loop-i.invariant.2)
+      | else-picks w ↦ rw (w.orders-is, w.count-is) (not_collected p xs n i blank_entry c.loop-i-test.true c.requires.0 _ c.loop-i.invariant.0 (sym c.picks.ensures ∙ w.if-picks.false), omega (arith, c.loop-i.invariant.1), c.loop-i.invariant.2)
     ]
 
 pub returns : goal.returns

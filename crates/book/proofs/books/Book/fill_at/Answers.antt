@@ -11,31 +11,23 @@ use Rattle.book.proofs.books.Book.fill_at.Goals as goal
 pub invariant_of-self : goal.invariant_of-self
 invariant_of-self c =
     let book = c.args.self.now in
-    let xs = take book.count book.entries in (
-      length-set book.entries c.args.place c.with_lots.result ∙ book.size,
-      (
-        book.room,
-        (
-          ap stands (take_filled book.entries book.count c.args.place c.args.lots c.with_lots.result c.requires c.with_lots.ensures) ∙ stands_from _ (stands_set_lots xs c.args.place ((get_or xs c.args.place blank_entry).order.lots - c.args.lots) blank_entry (book_stands book)),
-          tt,
-        ),
-      ),
-    )
+    let xs = take book.count book.entries in
+    record {
+      size = length-set book.entries c.args.place c.with_lots.result ∙ book.size;
+      room = book.room;
+      standing = ap stands (take_filled book.entries book.count c.args.place c.args.lots c.with_lots.result c.requires c.with_lots.ensures) ∙ stands_from _ (stands_set_lots xs c.args.place ((get_or xs c.args.place blank_entry).order.lots - c.args.lots) blank_entry (book_stands book));
+    }
 
 pub invariant_of-self-else-lots-first : goal.invariant_of-self-else-lots-first
 invariant_of-self-else-lots-first c =
     let book = c.args.self.now in
     let size = book.size in
-    let room = book.room in (
-      c.remove.auto.row ∙ book.size,
-      (
-        omega arith,
-        (
-          ap stands (take_removed book.count c.args.place book.entries c.remove.new.row c.requires (omega arith) c.remove.ensures.after) ∙ stands_from _ (stands_without c.args.place (take book.count book.entries) (book_stands book)),
-          tt,
-        ),
-      ),
-    )
+    let room = book.room in
+    record {
+      size = c.remove.auto.row ∙ book.size;
+      room = omega arith;
+      standing = ap stands (take_removed book.count c.args.place book.entries c.remove.new.row c.requires (omega arith) c.remove.ensures.after) ∙ stands_from _ (stands_without c.args.place (take book.count book.entries) (book_stands book));
+    }
 
 pub returns-then-lots-first : goal.returns-then-lots-first
 returns-then-lots-first c =

@@ -10,16 +10,12 @@ use Rattle.book.proofs.books.Book.leave_out.Goals as goal
 pub invariant_of-self : goal.invariant_of-self
 invariant_of-self c =
     let book = c.args.self.now in
-    let room = book.room in (
-      c.keep-kept.auto.entries ∙ book.size,
-      (
-        omega (arith, c.keep-kept.ensures.few),
-        (
-          ap stands c.keep-kept.ensures.front ∙ stands_from _ (stands_kept (λ entry. not (picks c.args.picked.now (order_of entry))) (entries_of book) (book_stands book)),
-          tt,
-        ),
-      ),
-    )
+    let room = book.room in
+    record {
+      size = c.keep-kept.auto.entries ∙ book.size;
+      room = omega (arith, c.keep-kept.ensures.few);
+      standing = ap stands c.keep-kept.ensures.front ∙ stands_from _ (stands_kept (λ entry. not (picks c.args.picked.now (order_of entry))) (entries_of book) (book_stands book));
+    }
 
 pub returns : goal.returns
 returns c = ap rows_in c.keep-kept.ensures.front ∙ rows_kept (picks c.args.picked.now) (entries_of c.args.self.now)

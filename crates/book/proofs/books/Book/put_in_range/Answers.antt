@@ -12,16 +12,12 @@ invariant_of-self c =
     let book = c.args.self.now in
     let counted = count_is book in
     let size = book.size in
-    let free = c.requires.1 in (
-      c.insert.auto.row ∙ book.size,
-      (
-        omega arith,
-        (
-          ap stands (take_inserted precedes book.count c.args.entry book.entries c.insert.new.row (omega arith) c.insert.ensures.after) ∙ stands_from _ (stands_inserted c.args.entry (take book.count book.entries) c.requires.0 (book_stands book)),
-          tt,
-        ),
-      ),
-    )
+    let free = c.requires.1 in
+    record {
+      size = c.insert.auto.row ∙ book.size;
+      room = omega arith;
+      standing = ap stands (take_inserted precedes book.count c.args.entry book.entries c.insert.new.row (omega arith) c.insert.ensures.after) ∙ stands_from _ (stands_inserted c.args.entry (take book.count book.entries) c.requires.0 (book_stands book));
+    }
 
 pub returns : goal.returns
 returns c =

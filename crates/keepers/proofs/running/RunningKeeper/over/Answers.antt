@@ -4,4 +4,4 @@ use Rattle.keepers.proofs.KeptNeeds.{fresh_need}
 use Rattle.keepers.proofs.running.RunningKeeper.over.Goals as goal
 
 pub invariant_of-result : goal.invariant_of-result
-invariant_of-result c = (λ m. zero_at 32 m ∙ sym (fresh_need c.args.table c.requires m), tt)
+invariant_of-result c = record { up_to_date = λ m. zero_at 32 m ∙ sym (fresh_need c.args.table c.requires m) }

@@ -12,7 +12,7 @@ use Rattle.margin.specs.declared.refusal.KeeperRefusal.{KeeperRefusal}
 use Rattle.positions.specs.declared.lots.LotsTable.{LotsTable}
 use Rattle.positions.specs.Charges.{summed, amount_at, standard_amount}
 use Rattle.positions.specs.Reads.{sheet_of}
-use Rattle.positions.proofs.Amounts.{standard_none}
+use Rattle.positions.specs.Amounts.{standard_none}
 use Rattle.positions.proofs.Sheets.{sheet_lawful}
 use Rattle.positions.proofs.Sums.{summed_none}
 

@@ -3,7 +3,7 @@ ghost use Rattle.margin.specs.Sheets.{fresh_sheet};
 ghost use Rattle.positions.specs.Charges.{summed, gross_amount};
 ghost use Rattle.positions.specs.Reads.{sheet_of};
 ghost use Rattle.positions.proofs.Sheets.{sheet_lawful};
-ghost use Rattle.positions.proofs.Amounts.{gross_none, gross_rise};
+ghost use Rattle.positions.specs.Amounts.{gross_none, gross_rise};
 ghost use Rattle.positions.proofs.Sums.{summed_none, summed_rise};
 ghost use Rattle.std.proofs.Common.{lit≤};
 

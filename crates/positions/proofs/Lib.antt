@@ -1,4 +1,3 @@
-pub mod Amounts
 pub mod Sums
 pub mod Sheets
 pub mod Positions

@@ -1,6 +1,6 @@
 ghost use Rattle.std.specs.Prelude.{◌≡◌, ℕ};
 ghost use Rattle.positions.specs.Charges.{Amount, standard_amount, gross_amount, AmountRiseBounded};
-ghost use Rattle.positions.proofs.Amounts.{standard_none, standard_rise, gross_none, gross_rise};
+ghost use Rattle.positions.specs.Amounts.{standard_none, standard_rise, gross_none, gross_rise};
 
 use crate::lots::Position;
 

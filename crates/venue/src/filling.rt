@@ -69,9 +69,9 @@ impl<K: Keeper> Venue<K> {
         events: &mut [Event],
         told: usize,
     ) -> Turn
-        requires instrument_bound { (new.now.instrument < 16) × (0 < rest) }
-        requires self_in_bounds { told + pending_count (market_of K.Keeper.sheet self.old) + 1 ≤ length events.old }
-        requires pending_value { Some pending.now ≡ first_of ((market_of K.Keeper.sheet self.old).rows (opposite new.now.side) new.now.instrument) }
+        requires in_range { (new.now.instrument < 16) × (0 < rest) }
+        requires room_for_events { told + pending_count (market_of K.Keeper.sheet self.old) + 1 ≤ length events.old }
+        requires pending_is_first { Some pending.now ≡ first_of ((market_of K.Keeper.sheet self.old).rows (opposite new.now.side) new.now.instrument) }
         ensures turned { Turned (fill_first K.Keeper.charge K.Keeper.reach number new.now (meeting_at (market_of K.Keeper.sheet self.old) rest) ((market_of K.Keeper.sheet self.old).rows (opposite new.now.side) new.now.instrument)) (market_of K.Keeper.sheet self.new) result.rest result.meets events.old events.new told result.told }
         ensures few { result.told + pending_count (market_of K.Keeper.sheet self.new) + min 1 result.rest ≤ told + pending_count (market_of K.Keeper.sheet self.old) + 1 }
         ensures going { result.meets ≡ true → 0 < result.rest }

@@ -25,8 +25,8 @@ impl<K: Keeper> Venue<K> {
         events: &mut [Event],
         told: usize,
     ) -> Turn
-        requires member_bound { (new.now.member < 32) × ((new.now.instrument < 16) × (0 < rest)) }
-        requires self_in_bounds { told + pending_count (market_of K.Keeper.sheet self.old) + 1 ≤ length events.old }
+        requires in_range { (new.now.member < 32) × ((new.now.instrument < 16) × (0 < rest)) }
+        requires room_for_events { told + pending_count (market_of K.Keeper.sheet self.old) + 1 ≤ length events.old }
         ensures turned { Turned (turned_by K.Keeper.charge K.Keeper.reach number new.now (meeting_at (market_of K.Keeper.sheet self.old) rest)) (market_of K.Keeper.sheet self.new) result.rest result.meets events.old events.new told result.told }
         ensures few { result.told + pending_count (market_of K.Keeper.sheet self.new) + min 1 result.rest ≤ told + pending_count (market_of K.Keeper.sheet self.old) + 1 }
         ensures going { result.meets ≡ true → 0 < result.rest }
@@ -56,8 +56,8 @@ impl<K: Keeper> Venue<K> {
 
     // Lets a placed order meet as long as it goes on.
     pub(crate) fn meet(&mut self, number: u16, new: &NewOrder, events: &mut [Event]) -> Turn
-        requires member_bound { (new.now.member < 32) × ((new.now.instrument < 16) × (0 < new.now.lots)) }
-        requires self_in_bounds { pending_count (market_of K.Keeper.sheet self.old) + 1 ≤ length events.old }
+        requires in_range { (new.now.member < 32) × ((new.now.instrument < 16) × (0 < new.now.lots)) }
+        requires room_for_events { pending_count (market_of K.Keeper.sheet self.old) + 1 ≤ length events.old }
         ensures turned { Turned (met K.Keeper.charge K.Keeper.reach number new.now (market_of K.Keeper.sheet self.old)) (market_of K.Keeper.sheet self.new) result.rest result.meets events.old events.new 0 result.told }
         ensures few { result.told + pending_count (market_of K.Keeper.sheet self.new) + min 1 result.rest ≤ pending_count (market_of K.Keeper.sheet self.old) + 1 }
     {
@@ -86,8 +86,8 @@ impl<K: Keeper> Venue<K> {
         turn: Turn,
         events: &mut [Event],
     ) -> usize
-        requires instrument_bound { (new.now.instrument < 16) × ((new.now.term ≡ Day → pending_count (market_of K.Keeper.sheet self.old) + min 1 turn.rest ≤ 256)) }
-        requires rest_in_bounds { turn.told + min 1 turn.rest ≤ length events.old }
+        requires room_in_book { (new.now.instrument < 16) × ((new.now.term ≡ Day → pending_count (market_of K.Keeper.sheet self.old) + min 1 turn.rest ≤ 256)) }
+        requires room_for_events { turn.told + min 1 turn.rest ≤ length events.old }
         ensures { Did (rest_settled number new.now (market_of K.Keeper.sheet self.old) turn.rest) (market_of K.Keeper.sheet self.new) events.old events.new turn.told result }
     {
         if turn.rest == 0 {

@@ -9,7 +9,7 @@ use Rattle.market.specs.Calls.{step}
 use Rattle.worked.specs.Amounts.{Charges, Modes}
 use Rattle.worked.specs.OrderLimits.{OrderLimits}
 use Rattle.worked.specs.Session.{WorkedSession}
-use Rattle.worked.specs.Meetings.{Precedence, OwnOrder, NeedNotLowered}
+use Rattle.worked.specs.Meetings.{Precedence, OwnOrderCancels, NeedNotLoweredCancels}
 use Rattle.worked.specs.Turns.{BothTurn, OneTurns}
 use Rattle.worked.specs.Cancels.{Cancels, Numbers}
 use Rattle.worked.specs.PlaceGrounds.{PlaceGrounds}
@@ -98,7 +98,7 @@ precedence =
       rest_of_a_day_order_becomes_pending = refl;
     }
 
-pub own_order : OwnOrder
+pub own_order : OwnOrderCancels
 unfolding step sum_below sum_over joined_below by_number repeated
 own_order =
     record {
@@ -109,7 +109,7 @@ own_order =
       both_pending_apart = refl;
     }
 
-pub need_not_lowered : NeedNotLowered
+pub need_not_lowered : NeedNotLoweredCancels
 unfolding step sum_below sum_over joined_below by_number repeated
 need_not_lowered =
     record {

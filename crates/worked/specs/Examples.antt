@@ -3,7 +3,7 @@ use Rattle.wire.specs.Trips.{WorkedMessages}
 use Rattle.worked.specs.Amounts.{Charges, Modes}
 use Rattle.worked.specs.OrderLimits.{OrderLimits}
 use Rattle.worked.specs.Session.{WorkedSession}
-use Rattle.worked.specs.Meetings.{Precedence, OwnOrder, NeedNotLowered}
+use Rattle.worked.specs.Meetings.{Precedence, OwnOrderCancels, NeedNotLoweredCancels}
 use Rattle.worked.specs.Turns.{BothTurn, OneTurns}
 use Rattle.worked.specs.Cancels.{Cancels, Numbers}
 use Rattle.worked.specs.PlaceGrounds.{PlaceGrounds}
@@ -18,8 +18,8 @@ pub record WorkedExamples : Type 0 where
   pub messages : WorkedMessages
   pub session : WorkedSession
   pub precedence : Precedence
-  pub own_order : OwnOrder
-  pub need_not_lowered : NeedNotLowered
+  pub own_order : OwnOrderCancels
+  pub need_not_lowered : NeedNotLoweredCancels
   pub both_turn : BothTurn
   pub one_turns : OneTurns
   pub cancels : Cancels

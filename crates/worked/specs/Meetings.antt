@@ -70,7 +70,7 @@ its_own_is_first = order 0 Bid Day 61000 5 ∷ order 1 Bid Day 61000 5 ∷ order
 abbrev pub its_own_is_apart : List Call
 its_own_is_apart = order 0 Bid Day 60000 5 ∷ order 0 Offer Day 61000 7 ∷ []
 
-pub record OwnOrder : Type 0 where
+pub record OwnOrderCancels : Type 0 where
   pub rest_cancelled : told_by comes_to_its_own ≡ trade (1 by 1) (4 by 0) 61100 2 ∷ cancel (4 by 0) 5 OwnOrder ∷ []
   pub both_bids_stay : pending_after comes_to_its_own ≡ pending (2 by 0) 61000 5 ∷ pending (3 by 1) 61000 5 ∷ []
   pub whole_order_cancelled : told_by its_own_is_first ≡ cancel (3 by 0) 7 OwnOrder ∷ []
@@ -108,7 +108,7 @@ twenty_sold =
     Offer 0 (pending (1 by 1) 61200 16 ∷ pending (2 by 1) 61300 9 ∷ []))
     2
 
-pub record NeedNotLowered : Type 0 where
+pub record NeedNotLoweredCancels : Type 0 where
   -- All 14 lots would lower the need of 3,000 to 2,800. The first 8 lower it to 2,200 and 2 more to 2,000; the next 4 would raise it.
   pub rest_cancelled :
       (outcome (in_reduction 2200 5 three_offers) (bid_for_14 61300)).events

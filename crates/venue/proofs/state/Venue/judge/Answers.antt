@@ -2,7 +2,7 @@ use Rattle.std.proofs.Common.{◌≡◌, ◌+◌, ◌&&◌, [], sym, ap, ◌∙�
 use Rattle.market.specs.declared.events.Reason.TheVariants.{TurnedToReduction}
 use Rattle.market.specs.Cancels.{cancelling}
 use Rattle.market.specs.Markets.{Market, Told, with_member, is_of}
-use Rattle.market.specs.Modes.{goal as need_by, has_fallen, judged_member}
+use Rattle.market.specs.Modes.{need as need_by, has_fallen, judged_member}
 use Rattle.market.proofs.Lists.{wrote_none}
 use Rattle.venue.specs.Reads.{market_of}
 use Rattle.venue.specs.Turns.{pending_count, Did}

@@ -13,7 +13,7 @@ loop-i-init g c =
     let new = c.args.new.now in (
       ap (λ n. repeated n (turn g.K.Keeper.charge g.K.Keeper.reach c.args.number new) (going M new.lots (take 0 c.args.events.now))) (omega arith),
       wrote_none c.args.events.now 0 (omega arith),
-      c.requires.0.1.1,
+      c.requires.in_range.1.1,
       omega arith,
     )
 

@@ -16,14 +16,17 @@ meet-turn-requires g c =
     let v = c.args.self.now in
     let room = v.book.room in
     let ok = placeable g.K.Keeper.charge g.K.Keeper.reach (length c.args.events.now) (market_of g.K.Keeper.sheet v) c.args.new.now (omega (arith, count_is v.book)) c.requires in
-    ((ok.in_table, (ok.in_range, ok.some)), omega (arith, ok.long, count_is v.book))
+    record { in_range = (ok.in_table, (ok.in_range, ok.some)); room_for_events = omega (arith, ok.long, count_is v.book) }
 
 pub settle-told-requires : goal.settle-told-requires
 settle-told-requires g c =
     let v = c.args.self.now in
     let room = v.book.room in
     let ok = placeable g.K.Keeper.charge g.K.Keeper.reach (length c.args.events.now) (market_of g.K.Keeper.sheet v) c.args.new.now (omega (arith, count_is v.book)) c.requires in
-    ((ok.in_range, λ day. omega (arith, ok.free_place day, c.meet-turn.ensures.few)), omega (arith, ok.long, count_is v.book, c.meet-turn.ensures.few, c.meet-turn.auto.events))
+    record {
+      room_in_book = (ok.in_range, λ day. omega (arith, ok.free_place day, c.meet-turn.ensures.few));
+      room_for_events = omega (arith, ok.long, count_is v.book, c.meet-turn.ensures.few, c.meet-turn.auto.events);
+    }
 
 pub returns : goal.returns
 returns g c =

@@ -13,7 +13,7 @@ returns-then-turn-eq0 g c =
     let rest = c.args.turn.rest in
     subst (λ (t : Told). Did t M c.args.events.now c.args.events.now c.args.turn.told c.args.turn.told)
     (sym (cond-false (ltb 0 rest) (rest_settled_by c.args.new.now.term c.args.number c.args.new.now M rest) (quietly M) (le-ltb 0 rest (omega arith))))
-    (record { market_is = refl; wrote = wrote_none c.args.events.now c.args.turn.told (omega (arith, c.requires.1)) })
+    (record { market_is = refl; wrote = wrote_none c.args.events.now c.args.turn.told (omega (arith, c.requires.room_for_events)) })
 
 pub returns-in-Day : goal.returns-in-Day
 returns-in-Day g c =
@@ -21,7 +21,7 @@ returns-in-Day g c =
     let rest = c.args.turn.rest in
     let by = cond-true (ltb 0 rest) (rest_settled_by c.args.new.now.term c.args.number c.args.new.now M rest) (quietly M) (lt-ltb 0 rest (omega arith)) ∙ ap (λ (t : Term). rest_settled_by t c.args.number c.args.new.now M rest) c.in-Day.is in
     subst (λ (t : Told). Did t (market_of g.K.Keeper.sheet c.store.new.self) c.args.events.now c.args.events.now c.args.turn.told c.args.turn.told) (sym by)
-    (record { market_is = c.store.ensures; wrote = wrote_none c.args.events.now c.args.turn.told (omega (arith, c.requires.1)) })
+    (record { market_is = c.store.ensures; wrote = wrote_none c.args.events.now c.args.turn.told (omega (arith, c.requires.room_for_events)) })
 
 pub returns-in-Immediate : goal.returns-in-Immediate
 returns-in-Immediate g c =

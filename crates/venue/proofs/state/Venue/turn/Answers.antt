@@ -14,7 +14,7 @@ returns-in_default g c =
     let new = c.args.new.now in
     let none = sym c.in_default.is ∙ c.first.ensures ∙ ap (λ s. first_of (M.rows s new.instrument)) c.opposite_of.ensures in
     record {
-      turned = turned_none g.K.Keeper.charge g.K.Keeper.reach c.args.number new M c.args.rest (M.rows (opposite new.side) new.instrument) c.args.events.now c.args.told (omega (arith, c.requires.1)) none;
+      turned = turned_none g.K.Keeper.charge g.K.Keeper.reach c.args.number new M c.args.rest (M.rows (opposite new.side) new.instrument) c.args.events.now c.args.told (omega (arith, c.requires.room_for_events)) none;
       few = omega arith;
       going = λ e. absurd (false≢true e);
     }
@@ -25,7 +25,7 @@ returns-then-is_apart g c =
     let new = c.args.new.now in
     let first = sym c.in-Some.is ∙ c.first.ensures ∙ ap (λ s. first_of (M.rows s new.instrument)) c.opposite_of.ensures in
     record {
-      turned = turned_apart g.K.Keeper.charge g.K.Keeper.reach c.args.number new M c.args.rest (M.rows (opposite new.side) new.instrument) c.in-Some.pending first c.args.events.now c.args.told (omega (arith, c.requires.1)) (sym c.is_apart.ensures ∙ c.if-is_apart.true);
+      turned = turned_apart g.K.Keeper.charge g.K.Keeper.reach c.args.number new M c.args.rest (M.rows (opposite new.side) new.instrument) c.in-Some.pending first c.args.events.now c.args.told (omega (arith, c.requires.room_for_events)) (sym c.is_apart.ensures ∙ c.if-is_apart.true);
       few = omega arith;
       going = λ e. absurd (false≢true e);
     }

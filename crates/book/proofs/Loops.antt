@@ -1,5 +1,5 @@
 -- What one turn of each loop over the entries adds.
-use Rattle.std.proofs.Common.{◌≡◌, ℕ, zero, suc, ◌+◌, ◌-◌, ◌<◌, ◌≤◌, Bool, true, false, cond, not, ◌&&◌, eqb, ltb, List, [], ◌∷◌, ◌++◌, map, length, get_or, take, drop, set, pos, sum_by, filter, sym, refl, ap, ◌∙◌, subst, arith}
+use Rattle.std.proofs.Common.{◌≡◌, ℕ, zero, suc, ◌+◌, ◌-◌, ◌<◌, ◌≤◌, Bool, true, false, cond, not, ◌&&◌, eqb, List, [], ◌∷◌, ◌++◌, map, length, get_or, take, drop, set, pos, sum_by, filter, sym, refl, ap, ◌∙◌, subst, arith}
 use Rattle.std.proofs.lemmas.List.Elements.{filter-append, filter_more}
 use Rattle.std.proofs.lemmas.List.{map-append, map_more, length-map, drop_more, get_or-map, get_or-take, length-take-le, drop_all, append-nil, length-append, take-append-drop, take-take}
 use Rattle.std.proofs.lemmas.List.Sums.{sum_by-cons}
@@ -13,7 +13,7 @@ use Rattle.market.specs.declared.events.Event.{Event}
 use Rattle.market.specs.declared.events.Reason.{Reason}
 use Rattle.market.specs.declared.orders.Listed.{Listed}
 use Rattle.market.specs.Lists.{Wrote}
-use Rattle.market.specs.Markets.{listed, sum_over, is_of, lots_of, pending_in, pending_lots}
+use Rattle.market.specs.Markets.{listed, sum_over, is_of, lots_of}
 use Rattle.market.specs.Cancels.{cancelled, by_number, has_lower_number}
 use Rattle.market.proofs.Lists.{wrote_one, wrote_both}
 use Rattle.market.proofs.Weights.{sum_over_pending}
@@ -23,7 +23,7 @@ use Rattle.book.specs.declared.entry.Entry.{Entry}
 use Rattle.book.specs.declared.entry.Leaving.{Leaving}
 use Rattle.book.specs.declared.part.Part.{Part}
 use Rattle.book.specs.declared.part.Part.TheVariants.{Whole, Instrument, Row}
-use Rattle.book.specs.Parts.{is_in_part, counted_lots, part_lots}
+use Rattle.book.specs.Parts.{counted_lots, part_lots}
 use Rattle.book.specs.Reads.{order_of, leaving_order, taken_orders, stands_at, rows_in, rows_of, entries_of}
 use Rattle.book.proofs.Places.{take_inserted, entries_length, book_pending}
 

@@ -1,10 +1,9 @@
 -- The first places of the book's array after the calls of the ordered row.
-use Rattle.std.proofs.Common.{◌≡◌, ℕ, zero, suc, ◌+◌, ◌-◌, ◌<◌, ◌≤◌, Bool, true, false, cond, ltb, leb, List, [], ◌∷◌, ◌++◌, map, length, get_or, take, drop, set, Some, filter, sym, refl, ap, ◌∙◌, subst, add-one, arith, length-append, length-drop, length-set, length-take}
+use Rattle.std.proofs.Common.{◌≡◌, ℕ, ◌+◌, ◌-◌, ◌<◌, ◌≤◌, Bool, cond, ltb, leb, List, [], ◌∷◌, ◌++◌, map, length, get_or, take, drop, set, Some, filter, sym, refl, ap, ◌∙◌, subst, add-one, arith, length-append, length-drop, length-take}
 use lib.ListN.{length-map}
 use lib.Seq.{take-set-lt}
 use Rattle.std.proofs.lemmas.List.{take_at, take-take, length-take-le, get_or-take, take-append-drop, set_split, drop_more}
 use Rattle.std.proofs.lemmas.Bool.{cond-true, cond_both, lt-ltb, le-leb, and_from, ltb-true, ltb-false}
-use Rattle.terms.specs.declared.Order.{Order}
 use Rattle.terms.specs.declared.Side.{Side}
 use Rattle.row.specs.Rows.{inserted, without, after_insert, after_remove}
 use Rattle.market.specs.Markets.{put_row, pending_orders}

@@ -1,28 +1,25 @@
 -- The rows that a book holds, after each change of its entries.
-use Rattle.std.proofs.Common.{◌≡◌, ℕ, zero, suc, ◌+◌, ◌-◌, ◌<◌, ◌≤◌, Bool, true, false, cond, not, ◌&&◌, eqb, ltb, ◌⊎◌, List, [], ◌∷◌, ◌++◌, map, length, get_or, take, drop, set, Some, None, filter, Option, sym, refl, ap, ◌∙◌, subst, inl, inr, arith}
+use Rattle.std.proofs.Common.{◌≡◌, ℕ, zero, suc, ◌-◌, ◌<◌, ◌≤◌, Bool, true, false, cond, not, ◌&&◌, eqb, ltb, ◌⊎◌, List, [], ◌∷◌, ◌++◌, map, filter, sym, refl, ap, ◌∙◌, subst, inl, inr, arith}
 use mathlib.Core.Path.{fun_ext}
-use borrow.Author.Differences.{ints}
 use Rattle.std.specs.List.{AllByRecursion as All}
 use Rattle.std.proofs.lemmas.List.Elements.{filter-append}
 use Rattle.std.proofs.ByRecursion.{All-weaker}
-use Rattle.std.proofs.lemmas.List.{map-append, append_assoc, append-nil}
+use Rattle.std.proofs.lemmas.List.{map-append}
 use Rattle.std.proofs.lemmas.Bool.{cond_both, cond-true, cond-false, eqb-true, eq-eqb, ne_eqb, ltb-false, lt-ltb, le-ltb, and_parts, and_from, and_right, cases_order, false≢true}
 use Rattle.std.proofs.lemmas.Bool.Decides.{nat_tests}
 use Rattle.terms.specs.declared.Order.{Order}
 use Rattle.terms.specs.declared.Side.{Side}
 use Rattle.terms.specs.declared.Side.TheVariants.{Bid, Offer}
 use Rattle.terms.specs.Sides.{same_side}
-use Rattle.terms.specs.Tables.{put}
 use Rattle.terms.proofs.Tables.{put_cases}
 use Rattle.row.specs.Rates.{precedes as order_precedes}
-use Rattle.row.specs.Rows.{inserted, without}
+use Rattle.row.specs.Rows.{inserted}
 use Rattle.market.specs.Markets.{Rows, put_row, joined_below, pending_orders}
 use Rattle.market.specs.Cancels.{rows_without}
-use Rattle.market.specs.Meeting.{row_filled}
 use Rattle.market.proofs.Sums.{eqb_swap}
 use Rattle.book.specs.declared.entry.Entry.{Entry}
 use Rattle.book.specs.Entries.{precedes, precedes_by_side}
-use Rattle.book.specs.Reads.{order_of, stands_at, rows_in, first_of, first_filled}
+use Rattle.book.specs.Reads.{order_of, stands_at, rows_in, first_filled}
 use Rattle.book.proofs.Standing.{Ordered, Stands, with_lots}
 
 -- ---- filters

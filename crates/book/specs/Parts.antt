@@ -1,6 +1,5 @@
 -- Lots of a member in a part of the book.
 use Rattle.std.specs.Prelude.{ℕ, Bool, true, cond, ◌==◌}
-use Rattle.terms.specs.declared.Side.{Side}
 use Rattle.market.specs.Markets.{Rows, is_of, lots_of, pending_in, pending_lots}
 use Rattle.book.specs.declared.entry.Entry.{Entry}
 use Rattle.book.specs.declared.part.Part.{Part}

@@ -1,11 +1,11 @@
 -- Sums over orders: what cancels, inserts and fills do to the sum of any number of each order. Lots, counts and numbers are all such sums.
-use Rattle.std.proofs.Common.{◌≡◌, ℕ, zero, suc, ◌+◌, ◌-◌, ◌<◌, ◌≤◌, Bool, true, false, cond, not, eqb, ltb, List, [], ◌∷◌, ◌++◌, map, length, filter, sym, refl, ap, ◌∙◌, subst, arith}
+use Rattle.std.proofs.Common.{◌≡◌, ℕ, zero, suc, ◌+◌, ◌<◌, Bool, true, false, cond, not, List, [], ◌∷◌, ◌++◌, length, filter, sym, refl, ap, ◌∙◌, arith}
 use Rattle.std.proofs.lemmas.List.Elements.{filter-append}
-use Rattle.std.proofs.lemmas.Bool.{cond_both, ltb-false}
+use Rattle.std.proofs.lemmas.Bool.{cond_both}
 use Rattle.terms.specs.declared.Order.{Order}
 use Rattle.terms.specs.declared.Side.{Side}
 use Rattle.terms.specs.declared.Side.TheVariants.{Bid, Offer}
-use Rattle.terms.specs.Tables.{put, sum_below}
+use Rattle.terms.specs.Tables.{sum_below}
 use Rattle.terms.proofs.Tables.{put_here, put_there}
 use Rattle.row.specs.Rows.{inserted}
 use Rattle.market.specs.Markets.{Rows, put_row, sum_over, joined_below, pending_orders}

@@ -1,5 +1,5 @@
 -- What each call makes of a venue, tells and answers.
-use Rattle.std.specs.Prelude.{ℕ, suc, ◌+◌, ◌-◌, Bool, true, false, ◌&&◌, List, [], ◌∷◌, length, Some, None, Ok, Err, Option, Result}
+use Rattle.std.specs.Prelude.{ℕ, suc, ◌+◌, ◌-◌, true, List, [], ◌∷◌, length, Some, None, Ok, Err, Option, Result}
 use Rattle.std.specs.Option.{unwrap_or}
 use Rattle.terms.specs.declared.Order.{Order}
 use Rattle.terms.specs.declared.Side.TheVariants.{Bid, Offer}
@@ -18,7 +18,6 @@ use Rattle.market.specs.declared.members.Benchmarks.TheVariants.{Mibor as OnlyMi
 use Rattle.market.specs.declared.members.Limits.{Limits}
 use Rattle.market.specs.declared.members.Member.{Member}
 use Rattle.market.specs.declared.members.Mode.TheVariants.{Reduction}
-use Rattle.market.specs.declared.orders.NewOrder.{NewOrder}
 use Rattle.market.specs.declared.orders.Quote.{Quote}
 use Rattle.market.specs.declared.refusals.Refusal.{Refusal}
 use Rattle.market.specs.Numbers.{benchmark_numbered, group_numbered, benchmarks_numbered}

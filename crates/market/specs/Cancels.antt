@@ -1,5 +1,5 @@
 -- Every cancel is one definition: the orders that a test picks leave the rows, and the events are theirs, lowest number first.
-use Rattle.std.specs.Prelude.{ℕ, Bool, not, List, [], ◌∷◌, map, filter, nat_lt}
+use Rattle.std.specs.Prelude.{Bool, not, List, [], ◌∷◌, map, filter, nat_lt}
 use Rattle.terms.specs.declared.Order.{Order}
 use Rattle.row.specs.Rows.{inserted}
 use Rattle.market.specs.declared.events.Event.{Event}

@@ -10,12 +10,11 @@ use Rattle.market.specs.declared.calls.Call.TheVariants.{Admit, Define, Open, De
 use Rattle.market.specs.declared.calls.Phase.{Phase}
 use Rattle.market.specs.declared.calls.Phase.TheVariants.{SetUp, Open as OpenPhase, Closed}
 use Rattle.market.specs.declared.members.Limits.{Limits}
-use Rattle.market.specs.declared.members.Member.{Member}
 use Rattle.market.specs.declared.orders.NewOrder.{NewOrder}
 use Rattle.market.specs.declared.refusals.Refusal.{Refusal}
 use Rattle.market.specs.declared.refusals.Refusal.TheVariants.{ListTooShort, WrongPhase, NoSuchMember, NoSuchInstrument, AlreadyThere, ValueOutOfRange, AmountOutOfRange, DepositNeeded, BenchmarkNotOpted, LotsOutOfRange, RateOutOfRange, AccumulatedLimitPassed, OverFiveYearsLimitPassed, ReachPassed, DayOrderInReduction, NeedNotLowered, NoSuchOrder, BookFull, NumbersUsedUp}
 use Rattle.market.specs.Numbers.{benchmark_numbered, group_numbered, benchmarks_numbered}
-use Rattle.market.specs.Markets.{Market, Rows, is_of, lots_of, pending_in, pending_lots, pending_orders}
+use Rattle.market.specs.Markets.{Market, is_of, lots_of, pending_in, pending_lots, pending_orders}
 use Rattle.market.specs.Limits.{opted, is_over_five_years, limit_for, highest_limit, accumulated_limit}
 use Rattle.market.specs.Modes.{is_reduction, need}
 use Rattle.market.specs.Meeting.{lowers_need}

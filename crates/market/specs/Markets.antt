@@ -1,5 +1,5 @@
 -- What a venue holds, and how one part of it is changed.
-use Rattle.std.specs.Prelude.{ℕ, zero, suc, ◌+◌, Bool, true, false, cond, List, [], ◌∷◌, ◌++◌, map, ◌==◌}
+use Rattle.std.specs.Prelude.{ℕ, zero, suc, ◌+◌, Bool, false, cond, List, [], ◌∷◌, ◌++◌, map, ◌==◌}
 use Rattle.terms.specs.declared.Order.{Order}
 use Rattle.terms.specs.declared.Side.{Side}
 use Rattle.terms.specs.declared.Side.TheVariants.{Bid, Offer}
@@ -7,7 +7,7 @@ use Rattle.terms.specs.Sides.{same_side}
 use Rattle.terms.specs.Tables.{put, sum_below}
 use Rattle.margin.specs.Sheets.{Sheet, fresh_sheet}
 use Rattle.market.specs.declared.calls.Phase.{Phase}
-use Rattle.market.specs.declared.calls.Phase.TheVariants.{SetUp, Open, Closed}
+use Rattle.market.specs.declared.calls.Phase.TheVariants.{SetUp}
 use Rattle.market.specs.declared.events.Event.{Event}
 use Rattle.market.specs.declared.instruments.Benchmark.TheVariants.{Mibor}
 use Rattle.market.specs.declared.instruments.Instrument.{Instrument}

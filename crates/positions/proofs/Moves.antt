@@ -1,5 +1,5 @@
 -- A need, with what one instrument adds after a record in place of what it adds before.
-use Rattle.std.proofs.Common.{◌≡◌, ℕ, ◌+◌, ◌-◌, ◌*◌, ◌^◌, ◌<◌, ◌≤◌, true, not, ◌&&◌, eqb, ltb, leb, ap, ◌∙◌, ⊎_elim, mul-le-mul, arith}
+use Rattle.std.proofs.Common.{◌≡◌, ℕ, ◌+◌, ◌*◌, ◌^◌, ◌<◌, ◌≤◌, true, not, ◌&&◌, eqb, ltb, leb, ap, ◌∙◌, ⊎_elim, mul-le-mul, arith}
 use Rattle.std.proofs.lemmas.Bool.{cond-true, cases_lt, and_parts, eqb-false, not-true}
 use Rattle.terms.specs.declared.Side.{Side}
 use Rattle.terms.specs.declared.Side.TheVariants.{Bid, Offer}

@@ -1,12 +1,12 @@
 -- The ledger agrees with the venue. While members wait to be judged, the ledger already has the mode that judging will give them.
-use Rattle.std.proofs.Common.{◌≡◌, ℕ, ◌+◌, ◌-◌, ◌<◌, ◌≤◌, Bool, true, false, cond, not, ◌&&◌, ◌||◌, eqb, ltb, List, [], ◌∷◌, ◌++◌, map, sym, refl, ap, ◌∙◌, subst, arith}
+use Rattle.std.proofs.Common.{◌≡◌, ℕ, ◌+◌, ◌-◌, ◌<◌, ◌≤◌, Bool, true, false, cond, ◌||◌, eqb, ltb, List, [], ◌∷◌, ◌++◌, map, sym, refl, ap, ◌∙◌, subst, arith}
 use Rattle.std.proofs.lemmas.Bool.{cond_both, cond-true, cond-false, eq-eqb, ne_eqb, lt-ltb, or_left, or_right}
 use Rattle.terms.specs.declared.Order.{Order}
 use Rattle.terms.specs.declared.Side.{Side}
 use Rattle.terms.specs.declared.Side.TheVariants.{Bid, Offer}
 use Rattle.terms.specs.Tables.{put}
 use Rattle.terms.proofs.Tables.{put_cases}
-use Rattle.margin.specs.Sheets.{Totals, Sheet, Charge, need_of}
+use Rattle.margin.specs.Sheets.{Sheet, Charge, need_of}
 use Rattle.market.specs.declared.events.Event.{Event}
 use Rattle.market.specs.declared.events.Event.TheVariants.{Traded}
 use Rattle.market.specs.declared.events.Reason.{Reason}
@@ -14,12 +14,12 @@ use Rattle.market.specs.declared.events.Trade.{Trade}
 use Rattle.market.specs.declared.members.Member.{Member}
 use Rattle.market.specs.declared.members.Mode.{Mode}
 use Rattle.market.specs.declared.orders.NewOrder.{NewOrder}
-use Rattle.market.specs.Markets.{sum_over, is_of, lots_of}
+use Rattle.market.specs.Markets.{sum_over, lots_of}
 use Rattle.market.specs.Limits.{highest_limit}
 use Rattle.market.specs.Cancels.{cancelled}
 use Rattle.market.specs.Modes.{judged, judged_member}
 use Rattle.market.specs.Meeting.{by_side, rest_cancelled, order_of, trade_of}
-use Rattle.runs.specs.Ledgers.{Ledger, add, add_lots, trade_entry, cancel_entry, other_party, owed, judge_entry, event_entry, event_entries}
+use Rattle.runs.specs.Ledgers.{Ledger, add_lots, trade_entry, cancel_entry, owed, judge_entry, event_entry, event_entries}
 use Rattle.runs.proofs.Orders.{Members}
 use Rattle.market.proofs.Sums.{eqb_swap}
 use Rattle.runs.proofs.Totals.{trade_totals, trade_totals_by_side}

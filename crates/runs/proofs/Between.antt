@@ -1,32 +1,31 @@
 -- What holds between calls; and that cancels, deposits and changes of phase keep it.
-use Rattle.std.proofs.Common.{◌≡◌, ℕ, suc, ◌+◌, ◌*◌, ◌<◌, ◌≤◌, Bool, true, false, cond, not, ◌&&◌, eqb, ltb, leb, List, [], length, sym, refl, ap, ◌∙◌, subst, arith}
+use Rattle.std.proofs.Common.{◌≡◌, ℕ, suc, ◌+◌, ◌*◌, ◌<◌, ◌≤◌, Bool, true, false, cond, ◌&&◌, eqb, [], length, sym, refl, ap, ◌∙◌, subst, arith}
 use mathlib.Core.Path.{fun_ext}
-use Rattle.std.proofs.lemmas.Bool.{cond_both, cond-true, cond-false, eqb-true, eq-eqb, lt-leb}
 use Rattle.std.proofs.lemmas.Bool.Decides.{nat_tests}
 use Rattle.terms.specs.declared.Order.{Order}
 use Rattle.terms.specs.declared.Side.{Side}
-use Rattle.terms.specs.declared.Side.TheVariants.{Bid, Offer}
+use Rattle.terms.specs.declared.Side.TheVariants.{Bid}
 use Rattle.terms.specs.Tables.{put}
 use Rattle.terms.proofs.Tables.{put_cases, put_here}
-use Rattle.margin.specs.Sheets.{Totals, Sheet, Charge, no_lots, need_of}
+use Rattle.margin.specs.Sheets.{Charge, no_lots, need_of}
 use Rattle.market.specs.declared.calls.Call.{Call}
 use Rattle.market.specs.declared.calls.Phase.{Phase}
 use Rattle.market.specs.declared.calls.Phase.TheVariants.{SetUp, Open, Closed}
 use Rattle.market.specs.declared.events.Reason.{Reason}
 use Rattle.market.specs.declared.members.Member.{Member}
 use Rattle.market.specs.declared.members.Mode.{Mode}
-use Rattle.market.specs.declared.members.Mode.TheVariants.{Reduction, Normal}
-use Rattle.market.specs.Markets.{Market, Rows, Told, with_phase, with_member}
+use Rattle.market.specs.declared.members.Mode.TheVariants.{Normal}
+use Rattle.market.specs.Markets.{Market, Told, with_phase}
 use Rattle.market.specs.Limits.{highest_limit}
 use Rattle.market.specs.Cancels.{cancelling, picked_orders}
 use Rattle.market.specs.Modes.{judged, judged_member, with_deposit, need}
 use Rattle.market.specs.Calls.{deposit_changed}
 use Rattle.runs.specs.Ledgers.{Ledger, deposit_entry, calling_member, judge_entry, event_entries, call_entry}
 use Rattle.runs.specs.Promises.{EventsReduceRisk}
-use Rattle.runs.proofs.Orders.{Members, Stands, orderly_changed, orderly_later, stands_by}
-use Rattle.runs.proofs.Counts.{Counted, counted_later}
-use Rattle.runs.proofs.Margins.{InBand, Margined, Bounded, judged_in_band}
-use Rattle.runs.proofs.Reaches.{coming, Reached}
+use Rattle.runs.proofs.Orders.{orderly_changed, orderly_later, stands_by}
+use Rattle.runs.proofs.Counts.{counted_later}
+use Rattle.runs.proofs.Margins.{InBand, Bounded, judged_in_band}
+use Rattle.runs.proofs.Reaches.{coming}
 use Rattle.runs.proofs.Accounts.{Agree, rest_of_none, agree_left, agree_judged_at_once}
 use Rattle.runs.proofs.Risk.{risk_cancelled}
 use Rattle.runs.proofs.Holds.{Holds, left, holds_cancelled}

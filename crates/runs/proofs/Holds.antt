@@ -1,18 +1,18 @@
 -- All that holds of a venue and its ledger, between calls and while an order is placed; kept by each kind of change.
-use Rattle.std.proofs.Common.{◌≡◌, ℕ, zero, suc, ◌+◌, ◌-◌, ◌<◌, ◌≤◌, min, Bool, true, false, cond, not, ◌&&◌, ◌||◌, eqb, ltb, leb, List, [], ◌∷◌, ◌++◌, map, length, sym, refl, ap, ◌∙◌, subst, arith}
+use Rattle.std.proofs.Common.{◌≡◌, ℕ, ◌+◌, ◌-◌, ◌<◌, ◌≤◌, min, Bool, true, false, cond, not, ◌&&◌, ◌||◌, eqb, ltb, leb, List, [], ◌∷◌, length, sym, refl, ap, ◌∙◌, subst, arith}
 use lib.ListN.{length-map}
 use Rattle.std.specs.List.{AllByRecursion as All}
 use Rattle.std.proofs.lemmas.Bool.{cond-true, cond_both, eq-eqb, ne_eqb, lt-ltb, le-leb, and_from, not_from_false, ltb-false}
 use Rattle.terms.specs.declared.Order.{Order}
 use Rattle.terms.specs.declared.Side.{Side}
 use Rattle.terms.specs.declared.Side.TheVariants.{Bid, Offer}
-use Rattle.margin.specs.Sheets.{Totals, Sheet, Charge, raised, need_of, can_record, can_record_trade, traded, after_trade}
-use Rattle.margin.specs.Laws.{Within, NoLotsNoCharge, RiseBounded}
+use Rattle.margin.specs.Sheets.{Totals, Sheet, Charge, raised, need_of, can_record, can_record_trade}
+use Rattle.margin.specs.Laws.{Within, RiseBounded}
 use Rattle.market.specs.declared.events.Event.{Event}
 use Rattle.market.specs.declared.events.Event.TheVariants.{Traded}
 use Rattle.market.specs.declared.events.Reason.{Reason}
 use Rattle.market.specs.declared.instruments.Instrument.{Instrument}
-use Rattle.market.specs.declared.members.Mode.TheVariants.{Reduction, Normal}
+use Rattle.market.specs.declared.members.Mode.TheVariants.{Reduction}
 use Rattle.market.specs.declared.orders.NewOrder.{NewOrder}
 use Rattle.market.specs.Markets.{Market, Rows, put_row, is_of, lots_of, pending_lots}
 use Rattle.market.specs.Limits.{highest_limit}
@@ -21,13 +21,13 @@ use Rattle.market.specs.Modes.{judged, need, has_fallen, judge}
 use Rattle.market.specs.Meeting.{opposite, by_side, row_filled, trade_of, rest_cancelled, after_fill}
 use Rattle.runs.specs.Ledgers.{Ledger, event_entry, event_entries}
 use Rattle.market.proofs.Weights.{book_sum_without, book_sum_put}
-use Rattle.runs.proofs.Orders.{Members, Stands, Orderly, orderly_without, orderly_judged, orderly_filled}
+use Rattle.runs.proofs.Orders.{Stands, Orderly, orderly_without, orderly_judged, orderly_filled}
 use Rattle.runs.proofs.Counts.{Counted, counted_without, counted_rest_cancelled, counted_filled}
 use Rattle.market.proofs.Sums.{eqb_swap}
 use Rattle.runs.proofs.Totals.{trade_totals, traded_totals, need_on}
 use Rattle.runs.proofs.Margins.{Margined, margined_judged, margined_traded}
 use Rattle.runs.proofs.Reaches.{coming, Reached, reached_without, reached_less, reached_traded, Balanced, balanced_traded, lots_of_filled, lots_of_first}
-use Rattle.runs.proofs.Accounts.{Agree, rest_of, rest_of_none, rest_of_part, agree_left, agree_cancelled, agree_rest_cancelled, agree_judged, agree_traded}
+use Rattle.runs.proofs.Accounts.{Agree, rest_of, rest_of_none, rest_of_part, agree_cancelled, agree_rest_cancelled, agree_judged, agree_traded}
 
 -- An instrument has a factor exactly if it is defined.
 pub record Known (instruments : ℕ → Instrument) (sheet : Sheet) : Type 0 where

@@ -1,6 +1,6 @@
 -- Needs against deposits: the band that each mode stands in, and the bound on every need. Kept by judging and by trades.
-use Rattle.std.proofs.Common.{◌≡◌, ℕ, ◌+◌, ◌*◌, ◌<◌, ◌≤◌, Bool, true, false, cond, ◌||◌, eqb, ltb, leb, ◌⊎◌, sym, refl, ap, ◌∙◌, subst, inl, inr, mul-le-mul, arith}
-use Rattle.std.proofs.lemmas.Bool.{cond_both, leb-true, leb-false, ltb-true, ltb-false, or_parts, eqb-true, ne_eqb, false≢true}
+use Rattle.std.proofs.Common.{◌≡◌, ℕ, ◌+◌, ◌*◌, ◌<◌, ◌≤◌, Bool, true, false, ◌||◌, eqb, ltb, leb, ◌⊎◌, sym, refl, ◌∙◌, subst, inl, inr, mul-le-mul, arith}
+use Rattle.std.proofs.lemmas.Bool.{cond_both, leb-true, leb-false, ltb-false, or_parts, eqb-true}
 use Rattle.terms.specs.declared.Side.{Side}
 use Rattle.terms.specs.Tables.{put}
 use Rattle.terms.proofs.Tables.{put_cases}

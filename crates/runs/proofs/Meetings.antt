@@ -1,14 +1,13 @@
 -- A placed order on its way: what holds of it, turn by turn.
-use Rattle.std.proofs.Common.{◌≡◌, ℕ, zero, suc, ◌+◌, ◌-◌, ◌<◌, ◌≤◌, min, Bool, true, false, cond, not, ◌&&◌, ◌||◌, eqb, ltb, List, [], ◌∷◌, ◌++◌, length, Result, sym, refl, ap, ◌∙◌, subst, arith, length-append}
+use Rattle.std.proofs.Common.{◌≡◌, ℕ, zero, suc, ◌+◌, ◌-◌, ◌<◌, ◌≤◌, min, Bool, true, false, cond, not, ◌&&◌, ◌||◌, eqb, ltb, List, [], ◌∷◌, ◌++◌, length, sym, refl, ap, ◌∙◌, subst, arith, length-append}
 use Rattle.std.specs.List.{AllByRecursion as All}
 use Rattle.std.proofs.lemmas.Bool.{cond_both, cond-true, cond-false, eq-eqb, ne_eqb, ltb-true, ltb-false, or_left, both_ways, false≢true, lt-ltb}
-use Rattle.std.proofs.lemmas.Bool.Decides.{nat_tests}
 use Rattle.terms.specs.declared.Order.{Order}
 use Rattle.terms.specs.declared.Side.{Side}
 use Rattle.terms.specs.declared.Side.TheVariants.{Bid, Offer}
 use Rattle.terms.specs.declared.Term.TheVariants.{Day}
 use Rattle.terms.proofs.Tables.{put_cases, put_here}
-use Rattle.margin.specs.Sheets.{Totals, Sheet, Charge, raised, recorded, can_record, need_of, need_with}
+use Rattle.margin.specs.Sheets.{Totals, Charge, raised, recorded, can_record, need_of}
 use Rattle.margin.specs.Laws.{RiseBounded}
 use Rattle.margin.specs.declared.refusal.KeeperRefusal.{KeeperRefusal}
 use Rattle.market.specs.declared.calls.Phase.TheVariants.{Open}
@@ -31,9 +30,9 @@ use Rattle.runs.specs.Promises.{LowersNeed, EventsReduceRisk}
 use Rattle.runs.proofs.Sequence.{Sequenced, apart_from_all}
 use Rattle.runs.proofs.Orders.{Members, Stands}
 use Rattle.market.proofs.Sums.{eqb_swap}
-use Rattle.runs.proofs.Totals.{trade_totals, placing_totals, need_on}
+use Rattle.runs.proofs.Totals.{placing_totals, need_on}
 use Rattle.runs.proofs.Margins.{not_both_modes}
-use Rattle.runs.proofs.Accounts.{Agree, owed_is, entered_totals, entries_append}
+use Rattle.runs.proofs.Accounts.{owed_is, entered_totals, entries_append}
 use Rattle.runs.proofs.Risk.{risk_append, risk_cancelled, risk_rest_cancelled}
 use Rattle.runs.proofs.Holds.{Holds, holds_rest_cancelled, holds_judged, stands, holds_traded}
 

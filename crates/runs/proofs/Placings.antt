@@ -1,8 +1,8 @@
 -- A place that no ground refuses: it begins to meet, and its rest is stored or cancelled.
-use Rattle.std.proofs.Common.{◌≡◌, ℕ, zero, suc, ◌+◌, ◌<◌, ◌≤◌, min, Bool, true, false, cond, eqb, ltb, List, [], ◌∷◌, ◌++◌, length, sym, refl, ap, ◌∙◌, subst, arith}
+use Rattle.std.proofs.Common.{◌≡◌, ℕ, suc, ◌+◌, ◌<◌, ◌≤◌, Bool, true, false, cond, ltb, [], length, sym, refl, ap, subst, arith}
 use Rattle.std.proofs.lemmas.Bool.{cond_both, ltb-true, ltb-false, false≢true}
 use Rattle.terms.specs.declared.Order.{Order}
-use Rattle.terms.specs.declared.Side.TheVariants.{Bid, Offer}
+use Rattle.terms.specs.declared.Side.TheVariants.{Bid}
 use Rattle.terms.specs.declared.Term.{Term}
 use Rattle.terms.specs.declared.Term.TheVariants.{Day, Immediate}
 use Rattle.row.specs.Rates.{precedes}
@@ -10,20 +10,20 @@ use Rattle.row.specs.Rows.{inserted}
 use Rattle.margin.specs.Sheets.{Charge}
 use Rattle.margin.specs.Laws.{RiseBounded}
 use Rattle.market.specs.declared.calls.Call.TheVariants.{Place}
-use Rattle.market.specs.declared.calls.Phase.TheVariants.{SetUp, Open}
+use Rattle.market.specs.declared.calls.Phase.TheVariants.{Open}
 use Rattle.market.specs.declared.events.Reason.TheVariants.{NotMetAtOnce}
 use Rattle.market.specs.declared.members.Mode.TheVariants.{Normal}
 use Rattle.market.specs.declared.orders.NewOrder.{NewOrder}
-use Rattle.market.specs.Markets.{Market, Told, with_given, is_of, lots_of, put_row, pending_orders}
+use Rattle.market.specs.Markets.{Market, with_given, is_of, lots_of, pending_orders}
 use Rattle.market.specs.Limits.{highest_limit}
-use Rattle.market.specs.Meeting.{Meeting, order_of, ends_cancelled, rest_cancelled, repeated, turn, met, stored, settled_by, settled, placed}
+use Rattle.market.specs.Meeting.{Meeting, order_of, ends_cancelled, met, stored, settled_by, settled, placed}
 use Rattle.runs.specs.Ledgers.{Ledger, accepted_entry, event_entries}
-use Rattle.market.proofs.Weights.{book_sum, one, sum_over_inserted, book_sum_put, pending_length}
+use Rattle.market.proofs.Weights.{sum_over_inserted, book_sum_put, pending_length}
 use Rattle.runs.proofs.Orders.{orderly_stored}
 use Rattle.runs.proofs.Counts.{Counted, counted_stored}
 use Rattle.market.proofs.Sums.{eqb_swap}
-use Rattle.runs.proofs.Reaches.{coming, Reached, reached_begins, reached_stored}
-use Rattle.runs.proofs.Accounts.{Agree, rest_of, rest_of_none, agree_left}
+use Rattle.runs.proofs.Reaches.{reached_begins, reached_stored}
+use Rattle.runs.proofs.Accounts.{rest_of_none, agree_left}
 use Rattle.runs.proofs.Holds.{Holds, left}
 use Rattle.runs.proofs.Meetings.{Mid, mid_turns, mid_ends_cancelled}
 use Rattle.runs.proofs.Between.{Between, Kept, holds_idle, holds_later, not_set_up, coming_none}

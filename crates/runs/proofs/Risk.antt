@@ -1,5 +1,5 @@
 -- Events that reduce risk, one after another: cancels always do.
-use Rattle.std.proofs.Common.{ℕ, true, false, cond, ltb, List, [], ◌∷◌, ◌++◌, map}
+use Rattle.std.proofs.Common.{ℕ, ltb, List, [], ◌∷◌, ◌++◌, map}
 use Rattle.std.proofs.lemmas.Bool.{cond_both}
 use Rattle.terms.specs.declared.Order.{Order}
 use Rattle.margin.specs.Sheets.{Charge}

@@ -1,5 +1,5 @@
 -- Rows in sequence, and rows that do not cross: kept by inserts, cancels and fills.
-use Rattle.std.proofs.Common.{◌≡◌, ℕ, ◌-◌, ◌<◌, Bool, true, false, cond, not, ltb, List, [], ◌∷◌, ℤ, ◌<ℤ◌, filter, refl, inl, inr, arith}
+use Rattle.std.proofs.Common.{◌≡◌, ℕ, ◌-◌, ◌<◌, Bool, true, false, ltb, List, [], ◌∷◌, ℤ, ◌<ℤ◌, filter, refl, inl, inr, arith}
 use borrow.Author.Differences.{ints}
 use lib.Signed.{lt_z}
 use Rattle.std.specs.List.{AllByRecursion as All}

@@ -1,26 +1,24 @@
 -- Admit and define in set-up, while nobody holds lots.
-use Rattle.std.proofs.Common.{◌≡◌, ℕ, ◌+◌, ◌*◌, ◌<◌, ◌≤◌, Bool, true, false, cond, ◌&&◌, eqb, ltb, leb, List, [], sym, refl, ap, ◌∙◌, subst, arith}
+use Rattle.std.proofs.Common.{◌≡◌, ℕ, ◌+◌, ◌<◌, ◌≤◌, Bool, true, false, cond, eqb, ltb, leb, sym, refl, ap, ◌∙◌, subst, arith}
 use Rattle.std.specs.List.{AllByRecursion as All}
-use Rattle.std.proofs.lemmas.Bool.{cond_both, cond-true, and_from, lt-ltb, le-leb, eq-eqb, true≢false}
-use Rattle.terms.specs.declared.Order.{Order}
+use Rattle.std.proofs.lemmas.Bool.{cond-true, and_from, lt-ltb, le-leb, eq-eqb, true≢false}
 use Rattle.terms.specs.declared.Side.TheVariants.{Bid, Offer}
 use Rattle.terms.specs.Tables.{put}
 use Rattle.terms.proofs.Tables.{put_cases, sum_zero}
-use Rattle.margin.specs.Sheets.{Sheet, Charge, can_set_factor, with_factor, after_set_factor, need_of}
+use Rattle.margin.specs.Sheets.{Charge, can_set_factor, with_factor, after_set_factor, need_of}
 use Rattle.margin.specs.Laws.{NoLotsNoCharge}
-use Rattle.market.specs.declared.instruments.Instrument.{Instrument}
 use Rattle.market.specs.declared.members.Limits.{Limits}
 use Rattle.market.specs.declared.members.Member.{Member}
 use Rattle.market.specs.declared.members.Mode.TheVariants.{Reduction}
-use Rattle.market.specs.Markets.{Market, Rows, with_member, with_instrument, with_sheet, sum_over, lots_of, pending_in, pending_lots}
+use Rattle.market.specs.Markets.{Market, with_member, with_instrument, with_sheet, sum_over, lots_of, pending_in, pending_lots}
 use Rattle.market.specs.Limits.{highest_limit}
 use Rattle.market.specs.Calls.{admitted, defined}
 use Rattle.runs.specs.Ledgers.{Ledger, admit_entry, factor_entry}
 use Rattle.runs.proofs.Orders.{Stands}
 use Rattle.runs.proofs.Totals.{need_on, need_none}
 use Rattle.runs.proofs.Margins.{InBand}
-use Rattle.runs.proofs.Accounts.{Agree, rest_of_none}
-use Rattle.runs.proofs.Holds.{Known, left}
+use Rattle.runs.proofs.Accounts.{rest_of_none}
+use Rattle.runs.proofs.Holds.{left}
 use Rattle.runs.proofs.Between.{Quiet, Between}
 
 pending_none : (M : Market) (k : ℕ) → Quiet M → pending_lots M.rows k ≡ 0

@@ -7,17 +7,16 @@ use Rattle.terms.specs.declared.Side.{Side}
 use Rattle.terms.specs.declared.Side.TheVariants.{Bid, Offer}
 use Rattle.terms.specs.Tables.{sum_below}
 use Rattle.terms.proofs.Tables.{sum_zero}
-use Rattle.margin.specs.Sheets.{Sheet, Totals, Charge, need_of}
+use Rattle.margin.specs.Sheets.{Totals, Charge, need_of}
 use Rattle.margin.specs.Laws.{NoLotsNoCharge, RiseBounded}
-use Rattle.market.specs.declared.members.Mode.TheVariants.{Reduction, Normal}
+use Rattle.market.specs.declared.members.Mode.TheVariants.{Reduction}
 use Rattle.market.specs.declared.orders.Listed.{Listed}
 use Rattle.market.specs.Markets.{Market, fresh_market, listed, listing, sum_over, is_of, lots_of, pending_in, pending_lots}
-use Rattle.market.specs.Limits.{highest_limit}
 use Rattle.runs.specs.Deeds.{Made, Deed, deed_of, market_after, deeds, market_at_end}
 use Rattle.runs.specs.Ledgers.{Ledger, blank_ledger, owed, deed_entry, ledger_from, ledger}
 use Rattle.runs.specs.Promises.{lots_in_listing, pending, highest_below, DeedsReduceRisk, Sound, SoundOverEveryKeeper}
 use Rattle.market.proofs.Sums.{sum_same}
-use Rattle.market.proofs.Weights.{sum_over_append, pending_length}
+use Rattle.market.proofs.Weights.{pending_length}
 use Rattle.runs.proofs.Sequence.{in_sequence}
 use Rattle.runs.proofs.Orders.{Members, Stands}
 use Rattle.runs.proofs.Counts.{no_number_twice}
@@ -26,7 +25,7 @@ use Rattle.runs.proofs.Accounts.{rest_of_none, owed_is}
 use Rattle.runs.proofs.Totals.{need_none}
 use Rattle.runs.proofs.Holds.{left}
 use Rattle.runs.proofs.Between.{Between}
-use Rattle.runs.proofs.Steps.{Stepped, step_kept}
+use Rattle.runs.proofs.Steps.{step_kept}
 
 -- ---- listings
 

@@ -1,7 +1,7 @@
 -- Every call keeps what holds between calls.
-use Rattle.std.proofs.Common.{◌≡◌, ℕ, ◌+◌, ◌-◌, ◌*◌, ◌<◌, ◌≤◌, max, Bool, true, false, cond, not, ◌&&◌, ◌||◌, eqb, ltb, leb, List, [], ◌∷◌, length, is_some, is_ok, Ok, Err, Result, sym, refl, ap, ◌∙◌, subst, arith}
+use Rattle.std.proofs.Common.{◌≡◌, ℕ, ◌+◌, ◌-◌, ◌*◌, ◌<◌, ◌≤◌, Bool, true, false, cond, not, ◌&&◌, eqb, ltb, leb, List, [], ◌∷◌, length, is_some, is_ok, Ok, Err, Result, sym, refl, ap, ◌∙◌, subst, arith}
 use Rattle.std.specs.List.{AllByRecursion as All}
-use Rattle.std.proofs.lemmas.Bool.{and_parts, or_parts, not-true, not-false, leb-false, ltb-false, eqb-false, false≢true}
+use Rattle.std.proofs.lemmas.Bool.{or_parts, not-false, leb-false, ltb-false, eqb-false, false≢true}
 use Rattle.terms.specs.declared.Term.{Term}
 use Rattle.terms.specs.declared.Term.TheVariants.{Day, Immediate}
 use Rattle.margin.specs.Sheets.{Charge}
@@ -19,16 +19,15 @@ use Rattle.market.specs.declared.members.Mode.TheVariants.{Reduction, Normal}
 use Rattle.market.specs.declared.orders.NewOrder.{NewOrder}
 use Rattle.market.specs.declared.refusals.Refusal.{Refusal}
 use Rattle.market.specs.Numbers.{benchmark_numbered, group_numbered}
-use Rattle.market.specs.Markets.{Market, Told, quietly, with_phase, is_of, pending_orders}
+use Rattle.market.specs.Markets.{Market, quietly, with_phase, is_of, pending_orders}
 use Rattle.market.specs.Limits.{limit_for, highest_limit}
 use Rattle.market.specs.Modes.{is_reduction, need}
-use Rattle.market.specs.Grounds.{Ground, checked, grounds, place_grounds, withdraw_grounds, is_set_up, is_open, is_day, is_order, no_member, no_instrument}
+use Rattle.market.specs.Grounds.{Ground, checked, grounds, place_grounds, is_set_up, is_open, is_day, is_order, no_member}
 use Rattle.market.specs.Calls.{Outcome, unless_refused, effect, accepted, step, deposit_changed}
-use Rattle.runs.specs.Deeds.{Deed}
-use Rattle.runs.specs.Ledgers.{Ledger, calling_member, judge_entry, deposit_entry, event_entries, call_entry, deed_entry}
+use Rattle.runs.specs.Ledgers.{Ledger, calling_member, judge_entry, deposit_entry, call_entry, deed_entry}
 use Rattle.runs.specs.Promises.{EventsReduceRisk}
 use Rattle.market.proofs.Weights.{pending_length}
-use Rattle.runs.proofs.Margins.{Bounded, in_band_normal}
+use Rattle.runs.proofs.Margins.{in_band_normal}
 use Rattle.runs.proofs.Between.{Between, Kept, holds_with_phase, kept_cancelled, between_deposit, not_set_up, closed_not_set_up}
 use Rattle.runs.proofs.SetUps.{between_admitted, between_defined}
 use Rattle.runs.proofs.Placings.{Acceptable, most_of, kept_placed}

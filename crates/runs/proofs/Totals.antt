@@ -1,13 +1,12 @@
 -- The totals after a trade, as the keeper holds them and as the ledger enters them; and the needs on them.
-use Rattle.std.proofs.Common.{◌≡◌, ℕ, ◌+◌, ◌*◌, ◌<◌, ◌≤◌, Bool, true, false, cond, ◌&&◌, eqb, ltb, sym, refl, ap, ◌∙◌, subst, ap₂, arith}
+use Rattle.std.proofs.Common.{◌≡◌, ℕ, ◌+◌, ◌*◌, ◌≤◌, Bool, true, false, cond, ◌&&◌, eqb, ltb, sym, refl, ap, ◌∙◌, arith}
 use mathlib.Core.Path.{fun_ext}
 use Rattle.std.proofs.lemmas.Bool.{cond_both, cond-true, cond-false, eq-eqb, ne_eqb, eqb-true, eqb-false}
 use Rattle.terms.specs.declared.Side.{Side}
 use Rattle.terms.specs.declared.Side.TheVariants.{Bid, Offer}
 use Rattle.terms.specs.Sides.{same_side}
 use Rattle.terms.specs.Tables.{put}
-use Rattle.terms.proofs.Tables.{put_cases}
-use Rattle.margin.specs.Sheets.{Totals, Sheet, Charge, no_lots, raised, recorded, traded, need_of}
+use Rattle.margin.specs.Sheets.{Totals, Sheet, Charge, no_lots, raised, recorded, traded}
 use Rattle.margin.specs.Laws.{Within, NoLotsNoCharge, RiseBounded}
 use Rattle.market.specs.Meeting.{opposite, by_side}
 use Rattle.market.proofs.Sums.{eqb_swap}

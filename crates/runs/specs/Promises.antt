@@ -8,7 +8,6 @@ use Rattle.terms.specs.Tables.{sum_below}
 use Rattle.row.specs.Rates.{Precedes}
 use Rattle.margin.specs.Sheets.{Charge, need_of}
 use Rattle.margin.specs.Laws.{NoLotsNoCharge, RiseBounded}
-use Rattle.market.specs.declared.events.Cancellation.{Cancellation}
 use Rattle.market.specs.declared.events.Event.{Event}
 use Rattle.market.specs.declared.events.Event.TheVariants.{Traded, Cancelled}
 use Rattle.market.specs.declared.events.Trade.{Trade}

@@ -1,5 +1,5 @@
 -- Grounds tested in parts, and what is left once none is met.
-use Rattle.std.proofs.Common.{◌≡◌, ℕ, ◌≤◌, Bool, true, false, cond, List, [], ◌∷◌, ◌++◌, Ok, Err, Result, sym, refl, ap, ◌∙◌, arith}
+use Rattle.std.proofs.Common.{◌≡◌, ℕ, ◌≤◌, Bool, true, false, cond, List, [], ◌∷◌, ◌++◌, Ok, Err, refl, arith}
 use Rattle.std.proofs.lemmas.Bool.{ltb-false}
 use Rattle.market.specs.declared.refusals.Refusal.{Refusal}
 use Rattle.market.specs.declared.refusals.Refusal.TheVariants.{ListTooShort}

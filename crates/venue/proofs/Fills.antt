@@ -1,5 +1,5 @@
 -- A fill, put together from its parts.
-use Rattle.std.proofs.Common.{◌≡◌, ℕ, ◌+◌, ◌-◌, ◌<◌, ◌≤◌, min, Bool, true, false, cond, not, ◌&&◌, ltb, List, [], ◌∷◌, ◌++◌, length, Some, None, Option, sym, refl, ap, ◌∙◌, subst, arith}
+use Rattle.std.proofs.Common.{◌≡◌, ℕ, ◌+◌, ◌-◌, ◌<◌, ◌≤◌, min, Bool, cond, not, ◌&&◌, ltb, List, [], ◌∷◌, ◌++◌, length, Some, sym, ap, ◌∙◌, subst, arith}
 use Rattle.std.proofs.lemmas.Bool.{cond_both, ltb-true}
 use Rattle.terms.specs.declared.Order.{Order}
 use Rattle.margin.specs.Sheets.{Charge}
@@ -9,12 +9,12 @@ use Rattle.market.specs.declared.events.Reason.{Reason}
 use Rattle.market.specs.declared.events.Reason.TheVariants.{TurnedToReduction}
 use Rattle.market.specs.declared.orders.NewOrder.{NewOrder}
 use Rattle.market.specs.Lists.{Wrote}
-use Rattle.market.specs.Markets.{Market, Told, with_rows, with_sheet, put_row, sum_over, pending_orders}
+use Rattle.market.specs.Markets.{Market, with_rows, with_sheet, put_row, sum_over}
 use Rattle.market.specs.Cancels.{cancelled}
 use Rattle.market.specs.Modes.{has_fallen, judge}
-use Rattle.market.specs.Meeting.{Meeting, opposite, row_filled, order_of, trade_of, rest_cancelled, after_fill, fill}
+use Rattle.market.specs.Meeting.{opposite, row_filled, order_of, trade_of, rest_cancelled, after_fill, fill}
 use Rattle.market.proofs.Lists.{wrote_both}
-use Rattle.market.proofs.Weights.{one, book_sum_put, sum_over_one, pending_length}
+use Rattle.market.proofs.Weights.{one, book_sum_put, pending_length}
 use Rattle.runs.proofs.Counts.{filled_count}
 use Rattle.book.specs.Reads.{first_of, first_filled}
 use Rattle.venue.specs.Turns.{pending_count, meeting_at, after_first_fill, fill_first, Turned, Did}

@@ -1,9 +1,9 @@
 -- Listings that are alike, place by place.
-use Rattle.std.proofs.Common.{◌≡◌, ℕ, zero, suc, ◌+◌, ◌<◌, Bool, true, false, eqb, List, [], ◌∷◌, map, length, get_or, ℤ, pos, sym, refl, ap, ◌∙◌, subst, arith, ext_get_or}
+use Rattle.std.proofs.Common.{◌≡◌, ℕ, zero, suc, ◌+◌, ◌<◌, Bool, true, false, eqb, List, [], ◌∷◌, map, length, get_or, pos, sym, refl, ap, ◌∙◌, subst, arith, ext_get_or}
 use Rattle.std.proofs.lemmas.Bool.{eqb-true, eq-eqb, false≢true}
 use Rattle.terms.specs.declared.Side.TheVariants.{Bid}
 use Rattle.market.specs.declared.orders.Listed.{Listed}
-use Rattle.venue.specs.Alike.{Shown, shown, Alike}
+use Rattle.venue.specs.Alike.{shown, Alike}
 
 abbrev pub no_order : Listed
 no_order = record { side = Bid; rate = pos 0; lots = 0; number = 0; member = 0 }

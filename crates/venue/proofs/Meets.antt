@@ -1,5 +1,5 @@
 -- One turn, by its cases.
-use Rattle.std.proofs.Common.{◌≡◌, ℕ, ◌+◌, ◌<◌, ◌≤◌, min, Bool, true, false, cond, eqb, List, [], ◌∷◌, ◌++◌, length, Some, None, Option, sym, refl, ap, ◌∙◌, subst, arith}
+use Rattle.std.proofs.Common.{◌≡◌, ℕ, ◌≤◌, min, Bool, true, false, eqb, List, [], ◌∷◌, length, Some, None, sym, refl, ap, ◌∙◌, subst, arith}
 use Rattle.std.proofs.lemmas.Bool.{cond-true, cond-false}
 use Rattle.terms.specs.declared.Order.{Order}
 use Rattle.margin.specs.Sheets.{Charge}
@@ -9,7 +9,7 @@ use Rattle.market.specs.declared.events.Reason.TheVariants.{OwnOrder, NeedNotLow
 use Rattle.market.specs.declared.orders.NewOrder.{NewOrder}
 use Rattle.market.specs.Lists.{Wrote}
 use Rattle.market.specs.Markets.{Market}
-use Rattle.market.specs.Meeting.{Meeting, apart, is_hindered, rest_cancelled, ends, ends_cancelled, fill, meeting_first}
+use Rattle.market.specs.Meeting.{Meeting, apart, is_hindered, rest_cancelled, ends, ends_cancelled, meeting_first}
 use Rattle.market.proofs.Lists.{wrote_none}
 use Rattle.book.specs.Reads.{first_of}
 use Rattle.venue.specs.Turns.{meeting_at, fill_first, Turned}

@@ -1,6 +1,5 @@
 -- A place put together, and the relation that every call promises.
-use Rattle.std.proofs.Common.{◌≡◌, ℕ, suc, ◌+◌, ◌<◌, ◌≤◌, Bool, true, false, cond, ltb, leb, List, [], ◌∷◌, ◌++◌, length, drop, is_ok, Ok, Err, Result, sym, refl, ap, ◌∙◌, subst, arith}
-use Rattle.std.specs.List.{AllByRecursion as All}
+use Rattle.std.proofs.Common.{◌≡◌, ℕ, suc, ◌+◌, ◌<◌, ◌≤◌, Bool, true, false, cond, ltb, List, ◌++◌, length, drop, is_ok, Ok, Result, sym, refl, ap, ◌∙◌, subst, arith}
 use Rattle.std.proofs.lemmas.List.{append-nil}
 use Rattle.std.proofs.lemmas.Bool.{ltb-false, leb-false}
 use Rattle.terms.specs.declared.Term.{Term}
@@ -16,10 +15,10 @@ use Rattle.market.specs.declared.refusals.Refusal.{Refusal}
 use Rattle.market.specs.Lists.{Wrote}
 use Rattle.market.specs.Markets.{Market, Told, with_given, pending_orders}
 use Rattle.market.specs.Meeting.{Meeting, met, settled, settled_by, placed}
-use Rattle.market.specs.Grounds.{Ground, checked, grounds, place_grounds}
+use Rattle.market.specs.Grounds.{checked, grounds, place_grounds}
 use Rattle.market.specs.Calls.{Outcome, unless_refused, effect, answer_of, accepted}
 use Rattle.market.proofs.Lists.{wrote_both}
-use Rattle.runs.proofs.Placings.{Acceptable, most_of}
+use Rattle.runs.proofs.Placings.{most_of}
 use Rattle.runs.proofs.Steps.{unmet, acceptable}
 use Rattle.venue.specs.Obeys.{Obeys}
 use Rattle.venue.specs.Turns.{pending_count, rest_settled, Turned, Did}

@@ -1,18 +1,17 @@
 -- Calls that tell no events, and calls one after another.
-use Rattle.std.proofs.Common.{◌≡◌, ℕ, suc, ◌+◌, ◌<◌, ◌≤◌, List, [], ◌∷◌, ◌++◌, map, length, get_or, take, drop, Ok, Err, Result, sym, refl, ap, ◌∙◌, subst, arith}
-use Rattle.std.proofs.lemmas.List.{drop_more, map-append, length-map}
-use Rattle.margin.specs.Sheets.{Charge, Sheet, fresh_sheet}
+use Rattle.std.proofs.Common.{◌≡◌, ℕ, ◌+◌, ◌<◌, List, [], ◌++◌, length, get_or, drop, Ok, Err, Result, sym, refl, ap, ◌∙◌}
+use Rattle.std.proofs.lemmas.List.{drop_more}
+use Rattle.margin.specs.Sheets.{Charge}
 use Rattle.market.specs.declared.calls.Answer.{Answer}
 use Rattle.market.specs.declared.calls.Call.{Call}
 use Rattle.market.specs.declared.calls.Call.TheVariants.{Admit, Define}
 use Rattle.market.specs.declared.events.Event.{Event}
 use Rattle.market.specs.declared.members.Limits.{Limits}
 use Rattle.market.specs.declared.refusals.Refusal.{Refusal}
-use Rattle.market.specs.Markets.{Market, begun, fresh_market}
+use Rattle.market.specs.Markets.{Market}
 use Rattle.market.specs.Grounds.{checked, grounds}
 use Rattle.market.specs.Calls.{Outcome, unless_refused, accepted, outcome, step}
-use Rattle.runs.specs.Deeds.{Made, deeds, market_after, market_at_end}
-use Rattle.runs.specs.Promises.{Sound}
+use Rattle.runs.specs.Deeds.{market_at_end}
 use Rattle.venue.specs.Obeys.{Obeys}
 use Rattle.venue.specs.Replays.{made_with, list_at_end}
 

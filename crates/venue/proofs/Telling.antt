@@ -1,18 +1,15 @@
 -- Events that are told, and the room that they need.
-use Rattle.std.proofs.Common.{◌≡◌, ℕ, ◌+◌, ◌<◌, ◌≤◌, Bool, true, false, cond, not, ◌&&◌, ltb, leb, List, [], ◌∷◌, ◌++◌, map, length, take, drop, Some, None, filter, Option, sym, refl, ap, ◌∙◌, subst, arith}
+use Rattle.std.proofs.Common.{◌≡◌, ℕ, ◌+◌, ◌≤◌, Bool, true, false, cond, ◌&&◌, leb, List, [], ◌∷◌, ◌++◌, map, length, take, drop, Some, None, filter, Option, sym, refl, ap, ◌∙◌, arith}
 use mathlib.Core.Path.{fun_ext}
 use lib.ListN.{length-map}
-use Rattle.std.specs.List.{AllByRecursion as All}
-use Rattle.std.proofs.lemmas.Bool.{cond-true, cond-false, le-leb, ltb-false, le-ltb}
+use Rattle.std.proofs.lemmas.Bool.{cond-true, le-leb}
 use Rattle.terms.specs.declared.Order.{Order}
 use Rattle.market.specs.declared.events.Event.{Event}
 use Rattle.market.specs.declared.events.Reason.{Reason}
 use Rattle.market.specs.Lists.{Wrote}
 use Rattle.market.specs.Markets.{Rows, Market, Told, with_rows, pending_orders}
 use Rattle.market.specs.Cancels.{cancelled, by_number, rows_without, picked_orders, cancelling}
-use Rattle.market.proofs.Lists.{wrote_none}
 use Rattle.market.proofs.Weights.{pending_without}
-use Rattle.venue.specs.Turns.{Did}
 
 some_is : (a b : ℕ) → ◌≡◌ {A = Option ℕ} (Some a) (Some b) → a ≡ b
 some_is a b e = cc

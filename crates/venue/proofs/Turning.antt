@@ -1,15 +1,15 @@
 -- Turns one after another.
-use Rattle.std.proofs.Common.{◌≡◌, ℕ, zero, suc, ◌+◌, ◌-◌, ◌<◌, ◌≤◌, min, Bool, true, false, cond, eqb, ltb, List, [], ◌∷◌, ◌++◌, length, take, drop, sym, refl, ap, ◌∙◌, subst, arith}
+use Rattle.std.proofs.Common.{◌≡◌, ℕ, zero, suc, min, Bool, true, false, cond, eqb, List, [], ◌∷◌, ◌++◌, take, drop, sym, refl, ap, ◌∙◌, subst, arith}
 use Rattle.std.proofs.lemmas.List.{append-nil, append_assoc, take_at, length-take-le, length-append}
-use Rattle.std.proofs.lemmas.Bool.{cond_both, cond-true, cond-false}
+use Rattle.std.proofs.lemmas.Bool.{cond-false}
 use Rattle.terms.specs.declared.Order.{Order}
 use Rattle.margin.specs.Sheets.{Charge}
 use Rattle.market.specs.declared.events.Event.{Event}
 use Rattle.market.specs.declared.orders.NewOrder.{NewOrder}
 use Rattle.market.specs.Lists.{Wrote}
 use Rattle.market.specs.Markets.{Market}
-use Rattle.market.specs.Meeting.{Meeting, apart, opposite, is_hindered, ends, ends_cancelled, fill, meeting_first, turn, met, repeated}
-use Rattle.market.proofs.Lists.{wrote_both, wrote_length}
+use Rattle.market.specs.Meeting.{Meeting, apart, opposite, is_hindered, ends, ends_cancelled, fill, meeting_first, turn, repeated}
+use Rattle.market.proofs.Lists.{wrote_both}
 use Rattle.venue.specs.Turns.{meeting_at, Turned}
 
 -- The same meeting with events told before it.

@@ -1,5 +1,5 @@
 -- A venue as the rules see it.
-use Rattle.std.specs.Prelude.{ℕ, cond, List, nat_lt, slice_index_or}
+use Rattle.std.specs.Prelude.{cond, nat_lt, slice_index_or}
 use Rattle.margin.specs.Sheets.{Sheet}
 use Rattle.market.specs.Markets.{Market, blank_member, blank_instrument}
 use Rattle.book.specs.Reads.{rows_of}

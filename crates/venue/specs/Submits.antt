@@ -7,7 +7,7 @@ use Rattle.market.specs.declared.calls.Call.TheVariants.{Place, Cancel, CancelAl
 use Rattle.market.specs.declared.events.Event.{Event}
 use Rattle.market.specs.declared.refusals.Refusal.{Refusal}
 use Rattle.market.specs.Markets.{Market}
-use Rattle.market.specs.Calls.{Outcome, outcome}
+use Rattle.market.specs.Calls.{outcome}
 use Rattle.wire.specs.declared.request.MessageRefusal.{MessageRefusal}
 use Rattle.wire.specs.declared.request.Request.{Request}
 use Rattle.wire.specs.declared.request.Request.TheVariants.{Place as AsksPlace, Cancel as AsksCancel, CancelAll as AsksCancelAll}

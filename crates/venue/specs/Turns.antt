@@ -8,7 +8,7 @@ use Rattle.market.specs.declared.events.Event.{Event}
 use Rattle.market.specs.declared.events.Reason.TheVariants.{NotMetAtOnce}
 use Rattle.market.specs.declared.orders.NewOrder.{NewOrder}
 use Rattle.market.specs.Lists.{Wrote}
-use Rattle.market.specs.Markets.{Market, Rows, Told, quietly, with_rows, with_sheet, put_row, pending_orders}
+use Rattle.market.specs.Markets.{Market, Told, quietly, with_rows, with_sheet, put_row, pending_orders}
 use Rattle.market.specs.Meeting.{Meeting, opposite, by_side, rest_cancelled, fill, stored}
 use Rattle.book.specs.Reads.{first_filled}
 

@@ -1,5 +1,5 @@
-use Rattle.std.proofs.Common.{◌≡◌, ◌-◌, ◌≤◌, map, length, take, drop, filter, sym, refl, ap, ◌∙◌, arith}
-use Rattle.std.proofs.lemmas.List.{drop_all, length-map, length-take-le}
+use Rattle.std.proofs.Common.{◌≡◌, ◌-◌, map, take, drop, filter, sym, refl, ap, ◌∙◌, arith}
+use Rattle.std.proofs.lemmas.List.{length-map, length-take-le}
 use Rattle.market.specs.Cancels.{by_number}
 use Rattle.book.specs.Picks.{picks}
 use Rattle.book.specs.Reads.{order_of, blank_entry}

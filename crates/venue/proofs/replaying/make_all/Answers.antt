@@ -1,8 +1,7 @@
-use Rattle.std.proofs.Common.{◌≡◌, ℕ, List, ◌++◌, length, get_or, drop, sym, ap, ◌∙◌, arith}
+use Rattle.std.proofs.Common.{ℕ, ◌++◌, length, get_or, drop, sym, ap, ◌∙◌, arith}
 use Rattle.std.proofs.lemmas.List.{drop_all}
 use Rattle.market.specs.declared.calls.Call.{Call}
 use Rattle.market.specs.declared.calls.Call.TheVariants.{Admit}
-use Rattle.market.specs.declared.events.Event.{Event}
 use Rattle.market.specs.Calls.{Outcome, outcome}
 use Rattle.runs.specs.Deeds.{market_at_end}
 use Rattle.venue.specs.Reads.{market_of}

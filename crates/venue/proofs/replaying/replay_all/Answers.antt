@@ -1,9 +1,8 @@
-use Rattle.std.proofs.Common.{◌≡◌, length, sym, ap, ◌∙◌, subst}
+use Rattle.std.proofs.Common.{length, sym, ap, ◌∙◌, subst}
 use Rattle.market.specs.Markets.{Market, begun, fresh_market}
 use Rattle.runs.specs.Deeds.{deeds, market_at_end}
 use Rattle.runs.specs.Promises.{Sound}
 use Rattle.runs.proofs.Soundness.{every_run_is_sound}
-use Rattle.venue.specs.Reads.{market_of}
 use Rattle.venue.specs.Replays.{made_with, list_at_end}
 use Rattle.venue.proofs.replaying.replay_all.Goals as goal
 

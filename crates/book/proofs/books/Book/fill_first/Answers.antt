@@ -1,7 +1,6 @@
 use Rattle.std.proofs.Common.{ap, ◌∙◌, arith}
-use Rattle.book.specs.Reads.{entries_of, rows_in}
+use Rattle.book.specs.Reads.{rows_in}
 use Rattle.book.proofs.Places.{rows_filled_at}
-use Rattle.book.proofs.Rows.{rows_none_filled}
 use Rattle.book.proofs.books.Book.fill_first.Goals as goal
 
 pub returns-in-Some : goal.returns-in-Some

@@ -1,8 +1,6 @@
-use Rattle.std.proofs.Common.{◌≡◌, ◌+◌, ◌-◌, ◌≤◌, ◌++◌, map, length, drop, sym, refl, ap, ◌∙◌, ap₂, arith, length-append}
+use Rattle.std.proofs.Common.{◌≡◌, ◌-◌, ◌++◌, length, drop, ap, ◌∙◌, arith}
 use lib.ListN.{length-map}
 use Rattle.terms.specs.declared.Side.TheVariants.{Bid, Offer}
-use Rattle.market.specs.declared.calls.ListingCounts.{ListingCounts}
-use Rattle.market.specs.Lists.{Wrote}
 use Rattle.market.specs.Markets.{listed}
 use Rattle.market.proofs.Lists.{wrote_both, wrote_length}
 use Rattle.book.specs.Reads.{rows_of, listing_in}

@@ -1,4 +1,4 @@
-use Rattle.std.proofs.Common.{◌≡◌, ◌<◌, length, take, sym, ap, ◌∙◌, arith}
+use Rattle.std.proofs.Common.{take, ap, ◌∙◌, arith}
 use Rattle.book.specs.Entries.{precedes}
 use Rattle.book.specs.Reads.{rows_in}
 use Rattle.book.specs.Standing.{stands}

@@ -1,4 +1,4 @@
-use Rattle.std.proofs.Common.{◌≡◌, ◌+◌, ◌<◌, ◌≤◌, [], map, length, subst, arith}
+use Rattle.std.proofs.Common.{◌≡◌, ◌+◌, [], map, length, subst, arith}
 use Rattle.std.proofs.lemmas.List.{take_all}
 use Rattle.market.specs.Cancels.{cancelled}
 use Rattle.market.specs.Lists.{Wrote}

@@ -1,8 +1,7 @@
-use Rattle.std.proofs.Common.{◌≡◌, ℕ, ltb, [], map, get_or, replicate, refl, ap}
+use Rattle.std.proofs.Common.{◌≡◌, ltb, get_or, replicate, refl, ap}
 use mathlib.Core.Path.{fun_ext}
 use Rattle.std.proofs.lemmas.Bool.{cond_both}
-use Rattle.market.specs.Markets.{Market, Rows, blank_member, blank_instrument}
-use Rattle.market.specs.declared.instruments.Instrument.{Instrument}
+use Rattle.market.specs.Markets.{blank_member, blank_instrument}
 use Rattle.market.specs.declared.members.Member.{Member}
 use Rattle.book.specs.Reads.{rows_in}
 use Rattle.venue.proofs.Tables.{get_d_replicate}

@@ -1,7 +1,6 @@
-use Rattle.std.proofs.Common.{ℕ, ap, ◌∙◌, arith}
+use Rattle.std.proofs.Common.{ap, ◌∙◌, arith}
 use Rattle.terms.specs.Tables.{put}
-use Rattle.market.specs.declared.instruments.Instrument.{Instrument}
-use Rattle.market.specs.Markets.{Market, blank_instrument}
+use Rattle.market.specs.Markets.{blank_instrument}
 use Rattle.venue.specs.Reads.{market_of}
 use Rattle.venue.proofs.Tables.{table_set}
 use Rattle.venue.proofs.state.Venue.enter_instrument.Goals as goal

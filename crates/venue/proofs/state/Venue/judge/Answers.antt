@@ -1,4 +1,4 @@
-use Rattle.std.proofs.Common.{◌≡◌, ◌+◌, ◌&&◌, [], sym, ap, ◌∙◌, subst, arith}
+use Rattle.std.proofs.Common.{◌≡◌, ◌+◌, ◌&&◌, sym, ap, ◌∙◌, subst, arith}
 use Rattle.market.specs.declared.events.Reason.TheVariants.{TurnedToReduction}
 use Rattle.market.specs.Cancels.{cancelling}
 use Rattle.market.specs.Markets.{Market, Told, with_member, is_of}

@@ -1,9 +1,8 @@
-use Rattle.std.proofs.Common.{◌≡◌, suc, ◌+◌, ◌-◌, ◌≤◌, true, false, take, sym, refl, ap, ◌∙◌, subst, arith}
+use Rattle.std.proofs.Common.{◌≡◌, suc, ◌+◌, ◌-◌, take, ap, ◌∙◌, arith}
 use Rattle.std.proofs.lemmas.Bool.{not-true, not-false}
-use Rattle.market.specs.Meeting.{Meeting, met, turn, repeated}
+use Rattle.market.specs.Meeting.{met, turn, repeated}
 use Rattle.market.proofs.Lists.{wrote_none}
 use Rattle.venue.specs.Reads.{market_of}
-use Rattle.venue.specs.Turns.{Turned}
 use Rattle.venue.proofs.Turning.{going, turned_on, turned_over, all_wrote, none_left}
 use Rattle.venue.proofs.state.Venue.meet.Goals as goal
 

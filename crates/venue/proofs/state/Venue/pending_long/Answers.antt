@@ -1,9 +1,9 @@
-use Rattle.std.proofs.Common.{◌≡◌, ℕ, ◌+◌, ◌*◌, ◌≤◌, cond, sym, refl, ap, ◌∙◌, arith}
+use Rattle.std.proofs.Common.{◌≡◌, ℕ, cond, sym, refl, ap, ◌∙◌, arith}
 use Rattle.std.proofs.lemmas.Bool.{cond-true, cond-false}
 use Rattle.terms.specs.Tables.{sum_below}
 use Rattle.terms.proofs.Tables.{sum_more}
 use Rattle.market.specs.Limits.{is_over_five_years}
-use Rattle.market.specs.Markets.{pending_in, blank_instrument}
+use Rattle.market.specs.Markets.{pending_in}
 use Rattle.venue.specs.Reads.{market_of}
 use Rattle.venue.proofs.state.Venue.pending_long.Goals as goal
 use Rattle.venue.proofs.state.Venue.pending_long.Goals.{then-is_long, else-is_long}

@@ -1,4 +1,4 @@
-use Rattle.std.proofs.Common.{◌≡◌, length, sym, ap, ◌∙◌, subst, add-one, arith}
+use Rattle.std.proofs.Common.{length, add-one, arith}
 use Rattle.book.proofs.Places.{count_is}
 use Rattle.venue.specs.Reads.{market_of}
 use Rattle.venue.proofs.Places.{placeable, place_obeys}

@@ -1,8 +1,8 @@
-use Rattle.std.proofs.Common.{◌≡◌, ◌+◌, ◌≤◌, min, Some, None, sym, ap, ◌∙◌, subst, arith}
+use Rattle.std.proofs.Common.{sym, ap, ◌∙◌, arith}
 use Rattle.std.proofs.lemmas.Bool.{eq-eqb, ne_eqb, false≢true}
 use Rattle.market.specs.declared.events.Reason.TheVariants.{OwnOrder, NeedNotLowered}
 use Rattle.market.specs.Meeting.{opposite, is_hindered}
-use Rattle.book.specs.Reads.{rows_of, first_of}
+use Rattle.book.specs.Reads.{first_of}
 use Rattle.venue.specs.Reads.{market_of}
 use Rattle.venue.proofs.Fills.{rest_few}
 use Rattle.venue.proofs.Meets.{turned_none, turned_apart, turned_own, turned_hindered, turned_filled}

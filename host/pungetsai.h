@@ -1,4 +1,4 @@
-/* The entry of the core for hosts in C. Link target/staticlib/libwire.a, which `rt staticlib wire` makes. */
+/* The entry of the core for hosts in C. Link target/staticlib/libwire.a, which host/run makes. */
 #ifndef PUNGETSAI_H
 #define PUNGETSAI_H
 

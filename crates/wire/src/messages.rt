@@ -40,9 +40,8 @@ impl MessageRefusal {
     }
 }
 
-/// For hosts in C: 0 for a legal message, else the number of the reader's refusal.
-#[unsafe(no_mangle)]
-pub extern "C" fn pungetsai_check_message(message: &[u8]) -> u8
+/// 0 for a legal message, else the number of the reader's refusal. The crate `wire_c` offers it to hosts in C.
+pub fn pungetsai_check_message(message: &[u8]) -> u8
     ensures { result ≡ legality (reading message.now) }
 {
     match read(message) {

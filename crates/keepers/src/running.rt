@@ -5,7 +5,7 @@ ghost use Rattle.positions.specs.Reads.{sheet_of};
 ghost use Rattle.positions.proofs.Sheets.{sheet_lawful};
 ghost use Rattle.positions.specs.Amounts.{standard_none, standard_rise};
 ghost use Rattle.positions.proofs.Sums.{summed_none, summed_rise};
-ghost use Rattle.std.proofs.Common.{lit≤};
+ghost use Rattle.std.proofs.Common.{rules};
 
 use margin::keeper::Keeper;
 use margin::refusal::KeeperRefusal;
@@ -75,7 +75,7 @@ impl Keeper for RunningKeeper {
 
     ghost reach = { 100000 };
 
-    ghost reach_in_range = { (lit≤ tt, lit≤ tt) };
+    ghost reach_in_range = { Prim.search rules };
 
     ghost sheet_is_lawful = { λ keeper. sheet_lawful keeper.table };
 

@@ -1,6 +1,7 @@
 ghost use Rattle.std.specs.Prelude.{◌≡◌, ℕ};
 ghost use Rattle.positions.specs.Charges.{Amount, standard_amount, gross_amount, AmountRiseBounded};
-ghost use Rattle.positions.specs.Amounts.{standard_none, standard_rise, gross_none, gross_rise};
+ghost use Rattle.positions.specs.Amounts.{standard_rise};
+ghost use Rattle.std.proofs.Common.{rules};
 
 use crate::lots::Position;
 
@@ -27,7 +28,7 @@ pub struct Gross;
 impl Tariff for Standard {
     ghost charged = { standard_amount };
 
-    ghost no_lots_no_amount = { standard_none };
+    ghost no_lots_no_amount = { Prim.search rules };
 
     ghost amount_rise_bounded = { standard_rise };
 
@@ -41,9 +42,9 @@ impl Tariff for Standard {
 impl Tariff for Gross {
     ghost charged = { gross_amount };
 
-    ghost no_lots_no_amount = { gross_none };
+    ghost no_lots_no_amount = { Prim.search rules };
 
-    ghost amount_rise_bounded = { gross_rise };
+    ghost amount_rise_bounded = { Prim.search rules };
 
     fn amount(&self, position: Position) -> u64 {
         2 * (u64::from(position.factor) * (u64::from(position.bought) + u64::from(position.sold)))

@@ -1,7 +1,7 @@
 -- The rows that a book holds, after each change of its entries.
 use Rattle.std.proofs.Common.{◌≡◌, ℕ, zero, suc, ◌-◌, ◌<◌, ◌≤◌, Bool, true, false, cond, not, ◌&&◌, eqb, ltb, ◌⊎◌, List, [], ◌∷◌, ◌++◌, map, filter, sym, refl, ap, ◌∙◌, subst, inl, inr, arith}
 use mathlib.Core.Path.{fun_ext}
-use Rattle.std.specs.List.{AllByRecursion as All}
+use Rattle.std.specs.List.{AllByRecursion}
 use Rattle.std.proofs.lemmas.List.Elements.{filter-append}
 use Rattle.std.proofs.ByRecursion.{All-weaker}
 use Rattle.std.proofs.lemmas.List.{map-append}
@@ -24,11 +24,11 @@ use Rattle.book.proofs.Standing.{Ordered, Stands, with_lots}
 
 -- ---- filters
 
-pub none_kept : {A : Type 0} (p : A → Bool) (xs : List A) → All (λ x. p x ≡ false) xs → filter p xs ≡ []
+pub none_kept : {A : Type 0} (p : A → Bool) (xs : List A) → AllByRecursion (λ x. p x ≡ false) xs → filter p xs ≡ []
 none_kept p [] h = refl
 none_kept p (x ∷ xs) h = cond-false (p x) (x ∷ filter p xs) (filter p xs) h.0 ∙ none_kept p xs h.1
 
-all_kept : {A : Type 0} (p : A → Bool) (xs : List A) → All (λ x. p x ≡ true) xs → filter p xs ≡ xs
+all_kept : {A : Type 0} (p : A → Bool) (xs : List A) → AllByRecursion (λ x. p x ≡ true) xs → filter p xs ≡ xs
 all_kept p [] h = refl
 all_kept p (x ∷ xs) h = cond-true (p x) (x ∷ filter p xs) (filter p xs) h.0 ∙ ap (λ ys. x ∷ ys) (all_kept p xs h.1)
 
@@ -156,7 +156,7 @@ below n x = ltb x.instrument n
 by_tests : (x : Entry) (all front bids offers : List Entry) (t b p q t' b' p' q' : Bool) → t ≡ t' → b ≡ b' → p ≡ p' → q ≡ q' → cond t' (x ∷ all) all ≡ cond b' (x ∷ front) front ++ (cond p' (x ∷ bids) bids ++ cond q' (x ∷ offers) offers) → cond t (x ∷ all) all ≡ cond b (x ∷ front) front ++ (cond p (x ∷ bids) bids ++ cond q (x ∷ offers) offers)
 by_tests x all front bids offers t b p q t' b' p' q' e f g h same = (λ k. cond (e k) (x ∷ all) all) ∙ same ∙ sym (λ k. cond (f k) (x ∷ front) front ++ (cond (g k) (x ∷ bids) bids ++ cond (h k) (x ∷ offers) offers))
 
-none_below : (n : ℕ) (x : Entry) (xs : List Entry) → n ≤ x.instrument → All (λ y. precedes y x ≡ false) xs → filter (below n) xs ≡ []
+none_below : (n : ℕ) (x : Entry) (xs : List Entry) → n ≤ x.instrument → AllByRecursion (λ y. precedes y x ≡ false) xs → filter (below n) xs ≡ []
 none_below n x xs l h = none_kept (below n) xs (All-weaker (λ y. precedes y x ≡ false) (λ y. below n y ≡ false) (λ y k. not_below y y.side x.side k) xs h)
   where
     not_below : (y : Entry) (s t : Side) → cond (ltb y.instrument x.instrument) true (cond (ltb x.instrument y.instrument) false (precedes_by_side s t y.order x.order)) ≡ false → ltb y.instrument n ≡ false
@@ -167,7 +167,7 @@ none_below n x xs l h = none_kept (below n) xs (All-weaker (λ y. precedes y x �
         at false e f = le-ltb y.instrument n (omega (arith, ltb-false y.instrument x.instrument e))
 
 -- Behind an offer stands no bid of its instrument.
-no_bids_behind : (n : ℕ) (x : Entry) (xs : List Entry) → x.side ≡ Offer → n ≡ x.instrument → All (λ y. precedes y x ≡ false) xs → filter (stands_at Bid n) xs ≡ []
+no_bids_behind : (n : ℕ) (x : Entry) (xs : List Entry) → x.side ≡ Offer → n ≡ x.instrument → AllByRecursion (λ y. precedes y x ≡ false) xs → filter (stands_at Bid n) xs ≡ []
 no_bids_behind n x xs offer here h = none_kept (stands_at Bid n) xs (All-weaker (λ y. precedes y x ≡ false) (λ y. stands_at Bid n y ≡ false) (λ y k. at y y.side x.side offer k) xs h)
   where
     at : (y : Entry) (u s : Side) → s ≡ Offer → cond (ltb y.instrument x.instrument) true (cond (ltb x.instrument y.instrument) false (precedes_by_side u s y.order x.order)) ≡ false → (same_side Bid u && eqb n y.instrument) ≡ false
@@ -211,7 +211,7 @@ joined_instruments : (n : ℕ) (xs : List Entry) → Ordered xs → joined_below
 unfolding joined_below
 joined_instruments zero xs h = sym (ap (λ z. map order_of z) (none_kept (below 0) xs (nothing xs)))
   where
-    nothing : (ys : List Entry) → All (λ y. below 0 y ≡ false) ys
+    nothing : (ys : List Entry) → AllByRecursion (λ y. below 0 y ≡ false) ys
     nothing [] = tt
     nothing (y ∷ ys) = (le-ltb y.instrument 0 (omega arith), nothing ys)
 joined_instruments (suc n) xs h =

@@ -1,7 +1,7 @@
 -- A book stays in order: kept by inserts, removals, filters, and fills in place.
 use Rattle.std.proofs.Common.{◌≡◌, ℕ, zero, suc, ◌+◌, ◌<◌, Bool, true, false, cond, not, ◌&&◌, ltb, List, [], ◌∷◌, ◌++◌, get_or, take, drop, set, filter, sym, refl, ap, subst, add-one, arith}
 use borrow.Author.Differences.{ints}
-use Rattle.std.specs.List.{AllByRecursion as All}
+use Rattle.std.specs.List.{AllByRecursion}
 use Rattle.std.proofs.ByRecursion.{all_kept_by, All-weaker, All-append, All-take, All-drop}
 use Rattle.std.proofs.lemmas.Bool.{cond_both, and_parts, and_from, not-true, not_from_false, lt-ltb, ltb-true}
 use Rattle.std.proofs.lemmas.Bool.Decides.{nat_tests}
@@ -15,17 +15,17 @@ use Rattle.book.specs.Standing.{is_unpreceded, stands}
 -- The same, as a relation.
 abbrev pub Ordered : List Entry → Type 0
 Ordered [] = Unit {0}
-Ordered (x ∷ xs) = All (λ y. precedes y x ≡ false) xs × Ordered xs
+Ordered (x ∷ xs) = AllByRecursion (λ y. precedes y x ≡ false) xs × Ordered xs
 
 pub record Stands (xs : List Entry) : Type 0 where
   pub ordered : Ordered xs
-  pub in_range : All (λ (x : Entry). x.instrument < 16) xs
+  pub in_range : AllByRecursion (λ (x : Entry). x.instrument < 16) xs
 
-unpreceded_says : (x : Entry) (xs : List Entry) → is_unpreceded x xs ≡ true → All (λ y. precedes y x ≡ false) xs
+unpreceded_says : (x : Entry) (xs : List Entry) → is_unpreceded x xs ≡ true → AllByRecursion (λ y. precedes y x ≡ false) xs
 unpreceded_says x [] h = tt
 unpreceded_says x (y ∷ ys) h = let p = and_parts (not (precedes y x)) (is_unpreceded x ys) h in (not-true (precedes y x) p.0, unpreceded_says x ys p.1)
 
-unpreceded_from : (x : Entry) (xs : List Entry) → All (λ y. precedes y x ≡ false) xs → is_unpreceded x xs ≡ true
+unpreceded_from : (x : Entry) (xs : List Entry) → AllByRecursion (λ y. precedes y x ≡ false) xs → is_unpreceded x xs ≡ true
 unpreceded_from x [] h = refl
 unpreceded_from x (y ∷ ys) h = and_from (not (precedes y x)) (is_unpreceded x ys) (not_from_false (precedes y x) h.0) (unpreceded_from x ys h.1)
 
@@ -66,9 +66,9 @@ not_before e x y h k = go e.side x.side y.side h k
     go Offer Offer Bid d e = grind (arith, ints, nat_tests)
     go Offer Offer Offer d e = grind (arith, ints, nat_tests)
 
-all_inserted : {A : Type 0} (P : A → Type 0) (before : A → A → Bool) (x : A) (xs : List A) → P x → All P xs → All P (inserted before x xs)
+all_inserted : {A : Type 0} (P : A → Type 0) (before : A → A → Bool) (x : A) (xs : List A) → P x → AllByRecursion P xs → AllByRecursion P (inserted before x xs)
 all_inserted P before x [] p h = (p, tt)
-all_inserted P before x (y ∷ ys) p h = cond_both (before x y) (x ∷ (y ∷ ys)) (y ∷ inserted before x ys) (All P) (λ _. (p, h)) (λ _. (h.0, all_inserted P before x ys p h.1))
+all_inserted P before x (y ∷ ys) p h = cond_both (before x y) (x ∷ (y ∷ ys)) (y ∷ inserted before x ys) (AllByRecursion P) (λ _. (p, h)) (λ _. (h.0, all_inserted P before x ys p h.1))
 
 ordered_inserted : (e : Entry) (xs : List Entry) → Ordered xs → Ordered (inserted precedes e xs)
 ordered_inserted e [] h = (tt, tt)
@@ -89,7 +89,7 @@ ordered_kept p (x ∷ xs) h = cond_both (p x) (x ∷ filter p xs) (filter p xs) 
 pub stands_kept : (p : Entry → Bool) (xs : List Entry) → Stands xs → Stands (filter p xs)
 stands_kept p xs h = record { ordered = ordered_kept p xs h.ordered; in_range = all_kept_by p (λ (x : Entry). x.instrument < 16) xs h.in_range }
 
-all_without : {A : Type 0} (P : A → Type 0) (place : ℕ) (xs : List A) → All P xs → All P (without place xs)
+all_without : {A : Type 0} (P : A → Type 0) (place : ℕ) (xs : List A) → AllByRecursion P xs → AllByRecursion P (without place xs)
 all_without P place xs h = All-append P (take place xs) (drop (place + 1) xs) (All-take P place xs h) (All-drop P (place + 1) xs h)
 
 ordered_without : (place : ℕ) (xs : List Entry) → Ordered xs → Ordered (take place xs ++ drop (suc place) xs)
@@ -99,7 +99,7 @@ ordered_without place [] h = nothing place
     nothing zero = tt
     nothing (suc n) = tt
 ordered_without zero (x ∷ xs) h = h.1
-ordered_without (suc place) (x ∷ xs) h = (subst (All (λ y. precedes y x ≡ false)) (ap (λ n. take place xs ++ drop n xs) (add-one place)) (all_without (λ y. precedes y x ≡ false) place xs h.0), ordered_without place xs h.1)
+ordered_without (suc place) (x ∷ xs) h = (subst (AllByRecursion (λ y. precedes y x ≡ false)) (ap (λ n. take place xs ++ drop n xs) (add-one place)) (all_without (λ y. precedes y x ≡ false) place xs h.0), ordered_without place xs h.1)
 
 pub stands_without : (place : ℕ) (xs : List Entry) → Stands xs → Stands (without place xs)
 stands_without place xs h = record { ordered = subst (λ n. Ordered (take place xs ++ drop n xs)) (sym (add-one place)) (ordered_without place xs h.ordered); in_range = all_without (λ (x : Entry). x.instrument < 16) place xs h.in_range }
@@ -129,10 +129,10 @@ lots_unseen_right x y lots h = subst (λ z. cond (ltb y.instrument x.instrument)
     go Offer Bid = refl
     go Offer Offer = refl
 
-all_set_lots : (P : Entry → Type 0) (xs : List Entry) (place lots : ℕ) (d : Entry) → ((x : Entry) → P x → P (with_lots x lots)) → All P xs → All P (set xs place (with_lots (get_or xs place d) lots))
+all_set_lots : (P : Entry → Type 0) (xs : List Entry) (place lots : ℕ) (d : Entry) → ((x : Entry) → P x → P (with_lots x lots)) → AllByRecursion P xs → AllByRecursion P (set xs place (with_lots (get_or xs place d) lots))
 all_set_lots P [] place lots d f h = nothing place
   where
-    nothing : (n : ℕ) → All P (set [] n (with_lots (get_or [] n d) lots))
+    nothing : (n : ℕ) → AllByRecursion P (set [] n (with_lots (get_or [] n d) lots))
     nothing zero = tt
     nothing (suc n) = tt
 all_set_lots P (x ∷ xs) zero lots d f h = (f x h.0, h.1)

@@ -1,5 +1,5 @@
 ghost use Rattle.std.specs.Prelude.{◌≡◌};
-ghost use Rattle.book.specs.Entries.{Precedes as Stands-before, Alike as Same-place, precedes as stands-before, HasLowerNumber};
+ghost use Rattle.book.specs.Entries.{Precedes as StandsBefore, Alike as SamePlace, precedes as stands_before, HasLowerNumber};
 ghost use Rattle.market.specs.Cancels.{has_lower_number};
 ghost use Rattle.std.proofs.Common.{rules};
 
@@ -17,11 +17,11 @@ pub struct Entry {
 
 // By instrument, bids before offers, and on one side of one instrument as bids and offers do.
 impl Precedence for Entry {
-    ghost Precedes = { Stands-before };
+    ghost Precedes = { StandsBefore };
 
-    ghost Alike = { Same-place };
+    ghost Alike = { SamePlace };
 
-    ghost test = { stands-before };
+    ghost test = { stands_before };
 
     ghost test_says_precedes = { Prim.search rules };
 

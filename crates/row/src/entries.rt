@@ -1,6 +1,6 @@
 ghost use Rattle.std.specs.Prelude.{◌≡◌, nat_lt};
 ghost use Rattle.terms.specs.declared.Side.TheVariants.{Bid as BidSide, Offer as OfferSide};
-ghost use Rattle.row.specs.Rates.{Precedes as Stands-before, Alike as Same-place, precedes as stands-before};
+ghost use Rattle.row.specs.Rates.{Precedes as StandsBefore, Alike as SamePlace, precedes as stands_before};
 ghost use Rattle.std.proofs.Common.{rules};
 
 use crate::precedence::Precedence;
@@ -15,11 +15,11 @@ pub struct Bid(pub Order);
 pub struct Offer(pub Order);
 
 impl Precedence for Bid {
-    ghost Precedes = { λ a b. Stands-before BidSide a.0 b.0 };
+    ghost Precedes = { λ a b. StandsBefore BidSide a.0 b.0 };
 
-    ghost Alike = { λ a b. Same-place a.0 b.0 };
+    ghost Alike = { λ a b. SamePlace a.0 b.0 };
 
-    ghost test = { λ a b. stands-before BidSide a.0 b.0 };
+    ghost test = { λ a b. stands_before BidSide a.0 b.0 };
 
     ghost test_says_precedes = { Prim.search rules };
 
@@ -42,11 +42,11 @@ impl Precedence for Bid {
 }
 
 impl Precedence for Offer {
-    ghost Precedes = { λ a b. Stands-before OfferSide a.0 b.0 };
+    ghost Precedes = { λ a b. StandsBefore OfferSide a.0 b.0 };
 
-    ghost Alike = { λ a b. Same-place a.0 b.0 };
+    ghost Alike = { λ a b. SamePlace a.0 b.0 };
 
-    ghost test = { λ a b. stands-before OfferSide a.0 b.0 };
+    ghost test = { λ a b. stands_before OfferSide a.0 b.0 };
 
     ghost test_says_precedes = { Prim.search rules };
 

@@ -1,6 +1,6 @@
 -- How many: a call's events and the orders pending after it are at most the orders pending before it and one more; and no number stands twice.
 use Rattle.std.proofs.Common.{◌≡◌, ℕ, suc, ◌+◌, ◌-◌, ◌<◌, ◌≤◌, min, Bool, cond, eqb, ltb, ◌≢◌, List, [], ◌∷◌, map, length, refl, ap, arith}
-use Rattle.std.specs.List.{AllByRecursion as All}
+use Rattle.std.specs.List.{AllByRecursion}
 use Rattle.std.proofs.lemmas.Bool.{cond_both, cond-true, cond-false, eqb-true, ltb-true, ltb-false, eq-eqb, ne_eqb}
 use Rattle.terms.specs.declared.Order.{Order}
 use Rattle.terms.specs.declared.Side.{Side}
@@ -98,7 +98,7 @@ numbers_alike (x ∷ xs) h = (differ xs (λ e. h x.number), numbers_alike xs (λ
     own : has_number x.number x ≡ 1
     own = cond-true {A = ℕ} (eqb x.number x.number) 1 0 (eq-eqb x.number x.number refl)
 
-    differ : (ys : List Order) → (Unit {0} → has_number x.number x + sum_over (has_number x.number) ys ≤ 1) → All (λ other. x.number ≢ other) (map (λ o. o.number) ys)
+    differ : (ys : List Order) → (Unit {0} → has_number x.number x + sum_over (has_number x.number) ys ≤ 1) → AllByRecursion (λ other. x.number ≢ other) (map (λ o. o.number) ys)
     differ [] k = tt
     differ (y ∷ ys) k =
         ((λ e. let hit = cond-true {A = ℕ} (eqb x.number y.number) 1 0 (eq-eqb x.number y.number e) in omega (arith, k tt, own)), differ ys (λ _. omega (arith, k tt)))

@@ -1,7 +1,7 @@
--- All that holds of a venue and its ledger, between calls and while an order is placed; kept by each kind of change.
+-- AllByRecursion that holds of a venue and its ledger, between calls and while an order is placed; kept by each kind of change.
 use Rattle.std.proofs.Common.{◌≡◌, ℕ, ◌+◌, ◌-◌, ◌<◌, ◌≤◌, min, Bool, true, false, cond, not, ◌&&◌, ◌||◌, eqb, ltb, leb, List, [], ◌∷◌, length, sym, refl, ap, ◌∙◌, subst, arith}
 use lib.ListN.{length-map}
-use Rattle.std.specs.List.{AllByRecursion as All}
+use Rattle.std.specs.List.{AllByRecursion}
 use Rattle.std.proofs.lemmas.Bool.{cond-true, cond_both, eq-eqb, ne_eqb, lt-ltb, le-leb, and_from, not_from_false, ltb-false}
 use Rattle.terms.specs.declared.Order.{Order}
 use Rattle.terms.specs.declared.Side.{Side}
@@ -111,7 +111,7 @@ module _ (charge : Charge) (reach : ℕ) (rise : RiseBounded charge reach) (give
   held_after = trade_totals M.sheet.held new.side new.member pending.member new.instrument lots
 
   pub stands : Stands given M.members pending
-  stands = (subst (All (Stands given M.members)) here (h.orderly.standing (opposite new.side) new.instrument)).0
+  stands = (subst (AllByRecursion (Stands given M.members)) here (h.orderly.standing (opposite new.side) new.instrument)).0
 
   within : (k : ℕ) → Within reach (M.sheet.held k)
   within k s j = omega (arith, h.reached k s j)

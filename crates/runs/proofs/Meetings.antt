@@ -1,6 +1,6 @@
 -- A placed order on its way: what holds of it, turn by turn.
 use Rattle.std.proofs.Common.{◌≡◌, ℕ, zero, suc, ◌+◌, ◌-◌, ◌<◌, ◌≤◌, min, Bool, true, false, cond, not, ◌&&◌, ◌||◌, eqb, ltb, List, [], ◌∷◌, ◌++◌, length, sym, refl, ap, ◌∙◌, subst, arith, length-append}
-use Rattle.std.specs.List.{AllByRecursion as All}
+use Rattle.std.specs.List.{AllByRecursion}
 use Rattle.std.proofs.lemmas.Bool.{cond_both, cond-true, cond-false, eq-eqb, ne_eqb, ltb-true, ltb-false, or_left, both_ways, false≢true, lt-ltb}
 use Rattle.terms.specs.declared.Order.{Order}
 use Rattle.terms.specs.declared.Side.{Side}
@@ -58,14 +58,14 @@ module _ (charge : Charge) (reach : ℕ) (L : Ledger) (given most : ℕ) (new : 
     pub holds : Holds charge reach new.side new.member new.instrument given most (event_entries charge new.member s.events L) s.market (length s.events) (λ _. false) s.rest
     pub small : s.rest ≤ highest_limit (s.market.members new.member).limits
     pub fits : s.meets ≡ true → (0 < s.rest) × (s.rest ≤ fuel)
-    pub clear : s.meets ≡ false → 0 < s.rest → All (λ o. apart new.side new.rate o.rate ≡ true) (s.market.rows (opposite new.side) new.instrument)
+    pub clear : s.meets ≡ false → 0 < s.rest → AllByRecursion (λ o. apart new.side new.rate o.rate ≡ true) (s.market.rows (opposite new.side) new.instrument)
     pub daily : new.term ≡ Day → 0 < s.rest → (s.market.members new.member).mode ≡ Normal
     pub risk : EventsReduceRisk charge new.member L s.events
     pub same_instruments : s.market.instruments ≡ instruments
     pub phase : s.market.phase ≡ Open
     pub numbers : s.market.given ≡ suc given
 
-  mid_ends : (fuel : ℕ) (s : Meeting) → All (λ o. apart new.side new.rate o.rate ≡ true) (s.market.rows (opposite new.side) new.instrument) → Mid (suc fuel) s → Mid fuel (ends s)
+  mid_ends : (fuel : ℕ) (s : Meeting) → AllByRecursion (λ o. apart new.side new.rate o.rate ≡ true) (s.market.rows (opposite new.side) new.instrument) → Mid (suc fuel) s → Mid fuel (ends s)
   mid_ends fuel s all h = record { holds = h.holds; small = h.small; fits = λ e. absurd (false≢true e); clear = λ _ _. all; daily = h.daily; risk = h.risk; same_instruments = h.same_instruments; phase = h.phase; numbers = h.numbers }
 
   -- Events added to those told so far.
@@ -267,10 +267,10 @@ module _ (charge : Charge) (reach : ℕ) (rise : RiseBounded charge reach) (L : 
 module _ (charge : Charge) (reach : ℕ) (rise : RiseBounded charge reach) (L : Ledger) (given most : ℕ) (new : NewOrder) (instruments : ℕ → Instrument)
     (in_table : new.member < 32) (in_range : new.instrument < 16) (defined : (instruments new.instrument).defined ≡ true) (number : ℕ) where
   mid_first : (fuel : ℕ) (s : Meeting) (row : List Order) → s.market.rows (opposite new.side) new.instrument ≡ row → s.meets ≡ true → Mid charge reach L given most new instruments (suc fuel) s → Mid charge reach L given most new instruments fuel (meeting_first charge reach number new s row)
-  mid_first fuel s [] here meets h = mid_ends charge reach L given most new instruments fuel s (subst (All (λ o. apart new.side new.rate o.rate ≡ true)) (sym here) tt) h
+  mid_first fuel s [] here meets h = mid_ends charge reach L given most new instruments fuel s (subst (AllByRecursion (λ o. apart new.side new.rate o.rate ≡ true)) (sym here) tt) h
   mid_first fuel s (pending ∷ others) here meets h =
       cond_both (apart new.side new.rate pending.rate) _ _ (Mid charge reach L given most new instruments fuel)
-      (λ e. mid_ends charge reach L given most new instruments fuel s (subst (All (λ o. apart new.side new.rate o.rate ≡ true)) (sym here) (apart_from_all new.side new.rate pending others (subst (Sequenced (opposite new.side)) here (h.holds.orderly.sequenced (opposite new.side) new.instrument)) e)) h)
+      (λ e. mid_ends charge reach L given most new instruments fuel s (subst (AllByRecursion (λ o. apart new.side new.rate o.rate ≡ true)) (sym here) (apart_from_all new.side new.rate pending others (subst (Sequenced (opposite new.side)) here (h.holds.orderly.sequenced (opposite new.side) new.instrument)) e)) h)
       (λ _. cond_both (eqb new.member pending.member) _ _ (Mid charge reach L given most new instruments fuel)
       (λ _. mid_ends_cancelled charge reach L given most new instruments fuel (suc fuel) number OwnOrder s h)
       (λ different. cond_both (is_hindered charge reach s.market new (min s.rest pending.lots)) _ _ (Mid charge reach L given most new instruments fuel)

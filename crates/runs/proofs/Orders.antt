@@ -1,6 +1,6 @@
 -- An orderly book: rows in sequence and uncrossed, and each order one that may stand. Kept by cancels, judging, fills and stored orders.
 use Rattle.std.proofs.Common.{◌≡◌, ℕ, suc, ◌<◌, ◌≤◌, Bool, true, not, ◌&&◌, List, [], ◌∷◌, filter, sym, refl, ap, ◌∙◌, subst, arith}
-use Rattle.std.specs.List.{AllByRecursion as All}
+use Rattle.std.specs.List.{AllByRecursion}
 use Rattle.std.proofs.ByRecursion.{All-weaker}
 use Rattle.std.proofs.lemmas.Bool.{cond_both, eq-eqb}
 use Rattle.terms.specs.declared.Order.{Order}
@@ -35,7 +35,7 @@ pub record Stands (given : ℕ) (members : Members) (order : Order) : Type 0 whe
 pub record Orderly (given : ℕ) (members : Members) (rows : Rows) : Type 0 where
   pub uncrossed : (i : ℕ) → Uncrossed (rows Bid i) (rows Offer i)
   pub sequenced : (side : Side) (i : ℕ) → Sequenced side (rows side i)
-  pub standing : (side : Side) (i : ℕ) → All (Stands given members) (rows side i)
+  pub standing : (side : Side) (i : ℕ) → AllByRecursion (Stands given members) (rows side i)
 
 -- A fact of every row, after one row is changed.
 pub each_row : (P : Side → ℕ → List Order → Type 0) (rows : Rows) (side : Side) (i : ℕ) (row : List Order) → ((s : Side) (j : ℕ) → P s j (rows s j)) → P side i row → (s : Side) (j : ℕ) → P s j (put_row rows side i row s j)
@@ -46,9 +46,9 @@ each_row P rows Offer i row h k Offer j = put_cases (rows Offer) i row j (P Offe
 
 -- ---- cancels and changes of the table of members
 
-all_kept : {A : Type 0} (p : A → Bool) (P Q : A → Type 0) → ((x : A) → p x ≡ true → P x → Q x) → (xs : List A) → All P xs → All Q (filter p xs)
+all_kept : {A : Type 0} (p : A → Bool) (P Q : A → Type 0) → ((x : A) → p x ≡ true → P x → Q x) → (xs : List A) → AllByRecursion P xs → AllByRecursion Q (filter p xs)
 all_kept p P Q f [] h = tt
-all_kept p P Q f (x ∷ xs) h = cond_both (p x) (x ∷ filter p xs) (filter p xs) (All Q) (λ e. (f x e h.0, all_kept p P Q f xs h.1)) (λ _. all_kept p P Q f xs h.1)
+all_kept p P Q f (x ∷ xs) h = cond_both (p x) (x ∷ filter p xs) (filter p xs) (AllByRecursion Q) (λ e. (f x e h.0, all_kept p P Q f xs h.1)) (λ _. all_kept p P Q f xs h.1)
 
 -- The orders that a test picks are taken out; the others may stand by the new table.
 pub orderly_without : (given : ℕ) (members after : Members) (rows : Rows) (picked : Order → Bool) → ((o : Order) → not (picked o) ≡ true → Stands given members o → Stands given after o) → Orderly given members rows → Orderly given after (rows_without picked rows)
@@ -98,7 +98,7 @@ orderly_judged given members rows m mode h =
 
 -- ---- a fill
 
-stands_filled : (given : ℕ) (members : Members) (first : Order) (lots : ℕ) (others : List Order) → All (Stands given members) (first ∷ others) → All (Stands given members) (row_filled first lots others)
+stands_filled : (given : ℕ) (members : Members) (first : Order) (lots : ℕ) (others : List Order) → AllByRecursion (Stands given members) (first ∷ others) → AllByRecursion (Stands given members) (row_filled first lots others)
 stands_filled given members first lots others h =
     all_filled (Stands given members) first lots others
     (λ l. record { in_table = h.0.in_table; active = h.0.active; some = omega arith; small = (let s = h.0.small in omega arith); numbered = h.0.numbered })
@@ -113,20 +113,20 @@ orderly_filled given members rows side i lots first others e h =
     record {
       uncrossed = uncrossed_filled rows side i lots first others e h.uncrossed;
       sequenced = each_row (λ s _ row. Sequenced s row) rows side i (row_filled first lots others) h.sequenced (sequenced_filled side first lots others (subst (Sequenced side) e (h.sequenced side i)));
-      standing = each_row (λ _ _ row. All (Stands given members) row) rows side i (row_filled first lots others) h.standing (stands_filled given members first lots others (subst (All (Stands given members)) e (h.standing side i)));
+      standing = each_row (λ _ _ row. AllByRecursion (Stands given members) row) rows side i (row_filled first lots others) h.standing (stands_filled given members first lots others (subst (AllByRecursion (Stands given members)) e (h.standing side i)));
     }
 
 -- ---- an order is stored
 
-uncrossed_stored : (rows : Rows) (side : Side) (i : ℕ) (x : Order) → All (λ o. apart side x.rate o.rate ≡ true) (rows (opposite side) i) → ((j : ℕ) → Uncrossed (rows Bid j) (rows Offer j)) → (j : ℕ) → Uncrossed (put_row rows side i (inserted (precedes side) x (rows side i)) Bid j) (put_row rows side i (inserted (precedes side) x (rows side i)) Offer j)
+uncrossed_stored : (rows : Rows) (side : Side) (i : ℕ) (x : Order) → AllByRecursion (λ o. apart side x.rate o.rate ≡ true) (rows (opposite side) i) → ((j : ℕ) → Uncrossed (rows Bid j) (rows Offer j)) → (j : ℕ) → Uncrossed (put_row rows side i (inserted (precedes side) x (rows side i)) Bid j) (put_row rows side i (inserted (precedes side) x (rows side i)) Offer j)
 uncrossed_stored rows Bid i x k h j = put_cases (rows Bid) i (inserted (precedes Bid) x (rows Bid i)) j (λ z. Uncrossed z (rows Offer j)) (λ d. subst (λ z. Uncrossed (inserted (precedes Bid) x (rows Bid i)) (rows Offer z)) d (uncrossed_new_bid x (rows Bid i) (rows Offer i) (h i) k)) (λ _. h j)
 uncrossed_stored rows Offer i x k h j = put_cases (rows Offer) i (inserted (precedes Offer) x (rows Offer i)) j (λ z. Uncrossed (rows Bid j) z) (λ d. subst (λ z. Uncrossed (rows Bid z) (inserted (precedes Offer) x (rows Offer i))) d (uncrossed_new_offer x (rows Bid i) (rows Offer i) (h i) k)) (λ _. h j)
 
-pub orderly_stored : (given : ℕ) (members : Members) (rows : Rows) (side : Side) (i : ℕ) (x : Order) → x.number ≡ suc given → Stands (suc given) members x → All (λ o. apart side x.rate o.rate ≡ true) (rows (opposite side) i) → Orderly given members rows → Orderly (suc given) members (put_row rows side i (inserted (precedes side) x (rows side i)))
+pub orderly_stored : (given : ℕ) (members : Members) (rows : Rows) (side : Side) (i : ℕ) (x : Order) → x.number ≡ suc given → Stands (suc given) members x → AllByRecursion (λ o. apart side x.rate o.rate ≡ true) (rows (opposite side) i) → Orderly given members rows → Orderly (suc given) members (put_row rows side i (inserted (precedes side) x (rows side i)))
 orderly_stored given members rows side i x n stands clear h =
-    let later : (s : Side) (j : ℕ) → All (Stands (suc given) members) (rows s j) = λ s j. All-weaker (Stands given members) (Stands (suc given) members) (λ o. stands_later given (suc given) members o (omega arith)) (rows s j) (h.standing s j) in
+    let later : (s : Side) (j : ℕ) → AllByRecursion (Stands (suc given) members) (rows s j) = λ s j. All-weaker (Stands given members) (Stands (suc given) members) (λ o. stands_later given (suc given) members o (omega arith)) (rows s j) (h.standing s j) in
     record {
       uncrossed = uncrossed_stored rows side i x clear h.uncrossed;
       sequenced = each_row (λ s _ row. Sequenced s row) rows side i (inserted (precedes side) x (rows side i)) h.sequenced (sequenced_inserted side x (rows side i) (All-weaker (Stands given members) (λ y. y.number < x.number) (λ y e. let l = e.numbered in omega arith) (rows side i) (h.standing side i)) (h.sequenced side i));
-      standing = each_row (λ _ _ row. All (Stands (suc given) members) row) rows side i (inserted (precedes side) x (rows side i)) later (all_inserted (Stands (suc given) members) (precedes side) x (rows side i) stands (later side i));
+      standing = each_row (λ _ _ row. AllByRecursion (Stands (suc given) members) row) rows side i (inserted (precedes side) x (rows side i)) later (all_inserted (Stands (suc given) members) (precedes side) x (rows side i) stands (later side i));
     }

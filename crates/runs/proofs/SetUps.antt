@@ -1,6 +1,6 @@
 -- Admit and define in set-up, while nobody holds lots.
 use Rattle.std.proofs.Common.{◌≡◌, ℕ, ◌+◌, ◌<◌, ◌≤◌, Bool, true, false, cond, eqb, ltb, leb, sym, refl, ap, ◌∙◌, subst, arith}
-use Rattle.std.specs.List.{AllByRecursion as All}
+use Rattle.std.specs.List.{AllByRecursion}
 use Rattle.std.proofs.lemmas.Bool.{cond-true, and_from, lt-ltb, le-leb, eq-eqb, true≢false}
 use Rattle.terms.specs.declared.Side.TheVariants.{Bid, Offer}
 use Rattle.terms.specs.Tables.{put}
@@ -35,7 +35,7 @@ module _ (charge : Charge) (reach : ℕ) (none : NoLotsNoCharge charge) where
       record {
         holds =
             record {
-              orderly = record { uncrossed = g.orderly.uncrossed; sequenced = g.orderly.sequenced; standing = λ side i. subst (All (Stands M.given (put M.members m (admitted benchmarks limits)))) (sym (quiet.nothing_pending side i)) tt };
+              orderly = record { uncrossed = g.orderly.uncrossed; sequenced = g.orderly.sequenced; standing = λ side i. subst (AllByRecursion (Stands M.given (put M.members m (admitted benchmarks limits)))) (sym (quiet.nothing_pending side i)) tt };
               counted = g.counted;
               margined =
                   record {

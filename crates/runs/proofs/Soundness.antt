@@ -1,6 +1,6 @@
 -- Every run is sound.
 use Rattle.std.proofs.Common.{◌≡◌, ℕ, ◌+◌, ◌*◌, ◌<◌, ◌≤◌, Bool, true, false, cond, eqb, List, [], ◌∷◌, ◌++◌, map, length, sym, refl, ap, ◌∙◌, subst, arith}
-use Rattle.std.specs.List.{AllByRecursion as All}
+use Rattle.std.specs.List.{AllByRecursion}
 use Rattle.std.proofs.lemmas.Bool.{eqb-true}
 use Rattle.terms.specs.declared.Order.{Order}
 use Rattle.terms.specs.declared.Side.{Side}
@@ -42,7 +42,7 @@ listing_row m side (o ∷ os) = ap (λ n. cond (eqb m o.member) o.lots 0 + n) (l
 pending_is : (M : Market) (m : ℕ) → pending M m ≡ pending_lots M.rows m
 pending_is M m = sum_same 16 (λ i. lots_in_listing m (listing M i)) (pending_in M.rows m) (λ i. omega (arith, listing_append m (map (listed Bid) (M.rows Bid i)) (map (listed Offer) (M.rows Offer i)), listing_row m Bid (M.rows Bid i), listing_row m Offer (M.rows Offer i)))
 
-idle_row : (given : ℕ) (members : Members) (m : ℕ) (orders : List Order) → (members m).mode ≡ Reduction → All (Stands given members) orders → lots_of m orders ≡ 0
+idle_row : (given : ℕ) (members : Members) (m : ℕ) (orders : List Order) → (members m).mode ≡ Reduction → AllByRecursion (Stands given members) orders → lots_of m orders ≡ 0
 unfolding sum_over
 idle_row given members m [] r h = refl
 idle_row given members m (o ∷ os) r h = omega (arith, idle_row given members m os r h.1, first (is_of m o) refl)
@@ -64,7 +64,7 @@ module _ (charge : Charge) (reach : ℕ) (none : NoLotsNoCharge charge) (rise : 
       let s = step_kept charge reach none rise c.places L M c.call h in
       (s.risk, run_risk (deed_entry charge (deed_of charge reach M c) L) (market_after charge reach M c) cs s.between)
 
-  run_few : (L : Ledger) (M : Market) (calls : List Made) → Between charge reach L M → All (λ deed. length deed.events ≤ 257) (deeds charge reach M calls)
+  run_few : (L : Ledger) (M : Market) (calls : List Made) → Between charge reach L M → AllByRecursion (λ deed. length deed.events ≤ 257) (deeds charge reach M calls)
   run_few L M [] h = tt
   run_few L M (c ∷ cs) h =
       let s = step_kept charge reach none rise c.places L M c.call h in
@@ -87,7 +87,7 @@ module _ (charge : Charge) (reach : ℕ) (none : NoLotsNoCharge charge) (rise : 
         quiet = λ _. record { nobody_holds = λ _. refl; nothing_pending = λ _ _. refl };
       }
 
-  sound : (run : List Deed) (M : Market) → DeedsReduceRisk charge blank_ledger run → All (λ deed. length deed.events ≤ 257) run → Between charge reach (ledger charge run) M → Sound charge run M
+  sound : (run : List Deed) (M : Market) → DeedsReduceRisk charge blank_ledger run → AllByRecursion (λ deed. length deed.events ≤ 257) run → Between charge reach (ledger charge run) M → Sound charge run M
   sound run M risk few h =
       let g = h.holds in
       let L = ledger charge run in

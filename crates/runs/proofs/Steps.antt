@@ -1,6 +1,6 @@
 -- Every call keeps what holds between calls.
 use Rattle.std.proofs.Common.{◌≡◌, ℕ, ◌+◌, ◌-◌, ◌*◌, ◌<◌, ◌≤◌, Bool, true, false, cond, not, ◌&&◌, eqb, ltb, leb, List, [], ◌∷◌, length, is_some, is_ok, Ok, Err, Result, sym, refl, ap, ◌∙◌, subst, arith}
-use Rattle.std.specs.List.{AllByRecursion as All}
+use Rattle.std.specs.List.{AllByRecursion}
 use Rattle.std.proofs.lemmas.Bool.{or_parts, not-false, leb-false, ltb-false, eqb-false, false≢true}
 use Rattle.terms.specs.declared.Term.{Term}
 use Rattle.terms.specs.declared.Term.TheVariants.{Day, Immediate}
@@ -34,11 +34,11 @@ use Rattle.runs.proofs.Placings.{Acceptable, most_of, kept_placed}
 
 -- ---- what grounds that are not met leave
 
-pub unmet : (gs : List Ground) → is_ok (checked gs) ≡ true → All (λ g. g.is_met ≡ false) gs
+pub unmet : (gs : List Ground) → is_ok (checked gs) ≡ true → AllByRecursion (λ g. g.is_met ≡ false) gs
 unmet [] h = tt
 unmet (g ∷ gs) h = go g.is_met h (unmet gs)
   where
-    go : (b : Bool) → is_ok (cond b (Err g.refusal) (checked gs)) ≡ true → (is_ok (checked gs) ≡ true → All (λ g. g.is_met ≡ false) gs) → (b ≡ false) × All (λ g. g.is_met ≡ false) gs
+    go : (b : Bool) → is_ok (cond b (Err g.refusal) (checked gs)) ≡ true → (is_ok (checked gs) ≡ true → AllByRecursion (λ g. g.is_met ≡ false) gs) → (b ≡ false) × AllByRecursion (λ g. g.is_met ≡ false) gs
     go true e others = absurd (false≢true e)
     go false e others = (refl, others e)
 

@@ -1,6 +1,6 @@
 -- What is promised of every run on a fresh venue, over every margin keeper that keeps its two laws.
 use Rattle.std.specs.Prelude.{◌≡◌, ℕ, zero, suc, ◌+◌, ◌*◌, ◌<◌, ◌≤◌, max, cond, ◌≢◌, List, [], ◌∷◌, map, length, ◌<ℤ◌, ◌==◌}
-use Rattle.std.specs.List.{AllByRecursion as All}
+use Rattle.std.specs.List.{AllByRecursion}
 use Rattle.terms.specs.declared.Order.{Order}
 use Rattle.terms.specs.declared.Side.{Side}
 use Rattle.terms.specs.declared.Side.TheVariants.{Bid, Offer}
@@ -22,15 +22,15 @@ use Rattle.runs.specs.Ledgers.{Ledger, blank_ledger, trade_entry, calling_member
 -- Each order stands before all that come after it: at a better rate, or at the same rate with a lower number.
 abbrev pub InSequence : Side → List Order → Type 0
 InSequence side [] = Unit {0}
-InSequence side (order ∷ orders) = All (Precedes side order) orders × InSequence side orders
+InSequence side (order ∷ orders) = AllByRecursion (Precedes side order) orders × InSequence side orders
 
 -- Every bid's rate is below every offer's.
 abbrev pub Uncrossed : List Order → List Order → Type 0
-Uncrossed bids offers = All (λ bid. All (λ offer. bid.rate <ℤ offer.rate) offers) bids
+Uncrossed bids offers = AllByRecursion (λ bid. AllByRecursion (λ offer. bid.rate <ℤ offer.rate) offers) bids
 
 abbrev pub NoTwoAlike : List ℕ → Type 0
 NoTwoAlike [] = Unit {0}
-NoTwoAlike (n ∷ ns) = All (λ other. n ≢ other) ns × NoTwoAlike ns
+NoTwoAlike (n ∷ ns) = AllByRecursion (λ other. n ≢ other) ns × NoTwoAlike ns
 
 -- A member's lots in a listing, and in the listings of all instruments.
 unfoldable pub lots_in_listing : ℕ → List Listed → ℕ
@@ -91,7 +91,7 @@ module _ (charge : Charge) where
     pub reduction_from_90_hundredths : (m : ℕ) → m < 32 → (ledger charge run).mode m ≡ Reduction → 9 * (ledger charge run).deposit m ≤ 10 * owed charge (ledger charge run) m
     pub trades_in_reduction_lower_need : DeedsReduceRisk blank_ledger run
     -- the events
-    pub at_most_257_events : All (λ deed. length deed.events ≤ 257) run
+    pub at_most_257_events : AllByRecursion (λ deed. length deed.events ≤ 257) run
 
 -- Any calls, in any order, refused ones and questions among them.
 abbrev pub EveryRunIsSound : Charge → ℕ → Type 0

@@ -1,5 +1,5 @@
 ghost use Rattle.std.specs.Prelude.{◌≡◌};
-ghost use Rattle.market.specs.Meeting.{opposite, apart, trade_of as trade-for, order_of as order-for};
+ghost use Rattle.market.specs.Meeting.{opposite, apart, trade_of as trade_for, order_of as order_for};
 
 use market::events::Trade;
 use market::orders::NewOrder;
@@ -26,7 +26,7 @@ pub(crate) fn is_apart(new: &NewOrder, pending: &Order) -> bool
 
 // A trade is at the pending order's rate.
 pub(crate) fn trade_of(number: u16, new: &NewOrder, pending: &Order, lots: u16) -> Trade
-    ensures { result ≡ trade-for number new.now pending.now lots }
+    ensures { result ≡ trade_for number new.now pending.now lots }
 {
     let rate = pending.rate;
     match new.side {
@@ -52,7 +52,7 @@ pub(crate) fn trade_of(number: u16, new: &NewOrder, pending: &Order, lots: u16) 
 }
 
 pub(crate) fn order_of(number: u16, new: &NewOrder, lots: u16) -> Order
-    ensures { result ≡ order-for number new.now lots }
+    ensures { result ≡ order_for number new.now lots }
 {
     Order {
         rate: new.rate,

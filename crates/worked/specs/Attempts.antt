@@ -20,8 +20,8 @@ answer_to attempt = (step standard reach attempt.places attempt.market attempt.c
 -- The refusals whose grounds it meets.
 abbrev pub met_by : Attempt → List Refusal
 met_by attempt =
-    map (λ ground. ground.refusal)
-    (filter (λ ground. ground.is_met) (grounds standard reach attempt.places attempt.market attempt.call))
+    map (λ each. each.refusal)
+    (filter (λ each. each.is_met) (grounds standard reach attempt.places attempt.market attempt.call))
 
 -- For an attempt that meets the grounds from the n-th on: a value with which the k-th is met, and one with which it is not.
 abbrev pub if_met : {A : Type 0} → ℕ → ℕ → A → A → A

@@ -1,5 +1,5 @@
 -- The rows of the rules, as a book holds them.
-use Rattle.std.specs.Prelude.{◌≡◌, ℕ, ◌-◌, ◌<◌, Bool, true, cond, ◌&&◌, List, [], ◌∷◌, ◌++◌, map, length, get_or, take, pos, Some, None, filter, Option, ◌==◌, nat_lt, slice_index_or, slice_set}
+use Rattle.std.specs.Prelude.{◌≡◌, ℕ, ◌-◌, ◌<◌, Bool, true, cond, ◌&&◌, List, [], ◌∷◌, ◌++◌, map, length, slice_index_or, take, pos, Some, None, filter, Option, ◌==◌, nat_lt, slice_set}
 use Rattle.terms.specs.declared.Order.{Order}
 use Rattle.terms.specs.declared.Side.{Side}
 use Rattle.terms.specs.declared.Side.TheVariants.{Bid, Offer}
@@ -64,8 +64,8 @@ entry_with_lots entry lots =
 -- The entry at a place filled by so many lots, and taken out if none are left.
 abbrev pub filled_at : ℕ → ℕ → List Entry → List Entry
 filled_at place lots entries =
-    cond (nat_lt lots (get_or entries place blank_entry).order.lots)
-    (slice_set entries place (entry_with_lots (slice_index_or entries place blank_entry) ((get_or entries place blank_entry).order.lots - lots)))
+    cond (nat_lt lots (slice_index_or entries place blank_entry).order.lots)
+    (slice_set entries place (entry_with_lots (slice_index_or entries place blank_entry) ((slice_index_or entries place blank_entry).order.lots - lots)))
     (without place entries)
 
 -- A place among the first n where an entry of this row stands, with none of it before.

@@ -38,10 +38,10 @@ fn tell_events(rt: &HostRuntime, events: &[Event], count: usize) -> io::Result<(
 
 fn tell_result(
     rt: &HostRuntime,
-    res: &Result<Answer, Refusal>,
+    answered: &Result<Answer, Refusal>,
     events: &[Event],
 ) -> io::Result<()> {
-    match res {
+    match answered {
         Ok(answer) => {
             tell(rt, &answer_line(rt.alloc(), answer)?)?;
             tell_events(rt, events, answer.events_told())

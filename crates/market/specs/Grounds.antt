@@ -1,5 +1,5 @@
 -- The grounds on which each call is refused, in the sequence in which they are tested.
-use Rattle.std.specs.Prelude.{ℕ, ◌+◌, ◌-◌, ◌*◌, Bool, true, false, cond, not, ◌&&◌, ◌||◌, ltb, leb, List, [], ◌∷◌, ◌++◌, length, ℤ, pos, negsuc, is_some, Ok, Err, filter, Result, ◌==◌, int_lt, nat_le, nat_lt}
+use Rattle.std.specs.Prelude.{ℕ, ◌+◌, ◌-◌, ◌*◌, Bool, true, false, cond, not, ◌&&◌, ◌||◌, nat_lt, nat_le, List, [], ◌∷◌, ◌++◌, length, ℤ, pos, negsuc, is_some, Ok, Err, filter, Result, ◌==◌, int_lt}
 use Rattle.terms.specs.declared.Order.{Order}
 use Rattle.terms.specs.declared.Term.{Term}
 use Rattle.terms.specs.declared.Term.TheVariants.{Day, Immediate}
@@ -91,7 +91,7 @@ no_order M m number = length (filter (is_order m number) (pending_orders M.rows)
 abbrev pub admit_grounds : Market → ℕ → ℕ → Limits → List Ground
 admit_grounds M m benchmarks limits =
     (WrongPhase when not (is_set_up M.phase))
-    ∷ (NoSuchMember when leb 32 m)
+    ∷ (NoSuchMember when nat_le 32 m)
     ∷ (AlreadyThere when (M.members m).admitted)
     ∷ (ValueOutOfRange when (not (is_some (benchmarks_numbered benchmarks)) || limits_out_of_range limits))
     ∷ []
@@ -99,7 +99,7 @@ admit_grounds M m benchmarks limits =
 abbrev pub define_grounds : Market → ℕ → ℕ → ℕ → ℕ → List Ground
 define_grounds M i benchmark group factor =
     (WrongPhase when not (is_set_up M.phase))
-    ∷ (NoSuchInstrument when leb 16 i)
+    ∷ (NoSuchInstrument when nat_le 16 i)
     ∷ (AlreadyThere when (M.instruments i).defined)
     ∷ (ValueOutOfRange when (not (is_some (benchmark_numbered benchmark)) || (not (is_some (group_numbered group)) || factor_out_of_range factor)))
     ∷ []
@@ -170,9 +170,9 @@ module _ (charge : Charge) (reach : ℕ) where
   limit_grounds M new =
       let member = M.members new.member in
       let instrument = M.instruments new.instrument in
-      (AccumulatedLimitPassed when ltb (accumulated_limit member) (pending_lots M.rows new.member + new.lots))
+      (AccumulatedLimitPassed when nat_lt (accumulated_limit member) (pending_lots M.rows new.member + new.lots))
       ∷ (OverFiveYearsLimitPassed when (is_over_five_years instrument.group && nat_lt (highest_limit member.limits) (pending_over_five_years M new.member + new.lots)))
-      ∷ (ReachPassed when ltb reach (M.sheet.held new.member new.side new.instrument + lots_of new.member (M.rows new.side new.instrument) + new.lots))
+      ∷ (ReachPassed when nat_lt reach (M.sheet.held new.member new.side new.instrument + lots_of new.member (M.rows new.side new.instrument) + new.lots))
       ∷ []
 
   -- What reduction mode forbids, and what all members share.
@@ -182,7 +182,7 @@ module _ (charge : Charge) (reach : ℕ) where
       (DayOrderInReduction when (in_reduction && is_day new.term))
       ∷ (NeedNotLowered when (in_reduction && not (lowers_need charge reach M new new.lots)))
       ∷ (BookFull when (is_day new.term && nat_le 256 (length (pending_orders M.rows))))
-      ∷ (NumbersUsedUp when leb 65535 M.given)
+      ∷ (NumbersUsedUp when nat_le 65535 M.given)
       ∷ []
 
   abbrev pub place_grounds : ℕ → Market → NewOrder → List Ground

@@ -22,55 +22,55 @@ const NO_ORDER: Listed = Listed {
     member: 0,
 };
 
-fn done(res: Result<(), Refusal>) -> Result<Answer, Refusal>
-    ensures { result ≡ as_answer (λ _. Done) res }
+fn done(answered: Result<(), Refusal>) -> Result<Answer, Refusal>
+    ensures { result ≡ as_answer (λ _. Done) answered }
 {
-    match res {
+    match answered {
         Ok(()) => Ok(Answer::Done),
         Err(refusal) => Err(refusal),
     }
 }
 
-fn placed(res: Result<Placed, Refusal>) -> Result<Answer, Refusal>
-    ensures { result ≡ as_answer PlacedAs res }
+fn placed(answered: Result<Placed, Refusal>) -> Result<Answer, Refusal>
+    ensures { result ≡ as_answer PlacedAs answered }
 {
-    match res {
+    match answered {
         Ok(placed) => Ok(Answer::Placed(placed)),
         Err(refusal) => Err(refusal),
     }
 }
 
-fn cancelled(res: Result<usize, Refusal>) -> Result<Answer, Refusal>
-    ensures { result ≡ as_answer CancelledCount res }
+fn cancelled(answered: Result<usize, Refusal>) -> Result<Answer, Refusal>
+    ensures { result ≡ as_answer CancelledCount answered }
 {
-    match res {
+    match answered {
         Ok(count) => Ok(Answer::Cancelled(count)),
         Err(refusal) => Err(refusal),
     }
 }
 
-fn stood(res: Result<Standing, Refusal>) -> Result<Answer, Refusal>
-    ensures { result ≡ as_answer StandingIs res }
+fn stood(answered: Result<Standing, Refusal>) -> Result<Answer, Refusal>
+    ensures { result ≡ as_answer StandingIs answered }
 {
-    match res {
+    match answered {
         Ok(standing) => Ok(Answer::Standing(standing)),
         Err(refusal) => Err(refusal),
     }
 }
 
-fn quoted(res: Result<(Option<Quote>, Option<Quote>), Refusal>) -> Result<Answer, Refusal>
-    ensures { result ≡ as_answer (λ pair. Quotes pair.0 pair.1) res }
+fn quoted(answered: Result<(Option<Quote>, Option<Quote>), Refusal>) -> Result<Answer, Refusal>
+    ensures { result ≡ as_answer (λ pair. Quotes pair.0 pair.1) answered }
 {
-    match res {
+    match answered {
         Ok((bid, offer)) => Ok(Answer::Quotes(bid, offer)),
         Err(refusal) => Err(refusal),
     }
 }
 
-fn listed(res: Result<ListingCounts, Refusal>) -> Result<Answer, Refusal>
-    ensures { result ≡ as_answer Listing res }
+fn listed(answered: Result<ListingCounts, Refusal>) -> Result<Answer, Refusal>
+    ensures { result ≡ as_answer Listing answered }
 {
-    match res {
+    match answered {
         Ok(counts) => Ok(Answer::Listing(counts)),
         Err(refusal) => Err(refusal),
     }

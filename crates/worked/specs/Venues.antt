@@ -1,5 +1,5 @@
 -- The words of the examples: venues and what stands in them, calls, answers and events.
-use Rattle.std.specs.Prelude.{ℕ, zero, suc, true, cond, List, [], ◌∷◌, ◌++◌, map, get_or, ℤ, pos, Ok, Result, slice_index_or}
+use Rattle.std.specs.Prelude.{ℕ, zero, suc, true, cond, List, [], ◌∷◌, ◌++◌, map, slice_index_or, ℤ, pos, Ok, Result}
 use Rattle.terms.specs.declared.Order.{Order}
 use Rattle.terms.specs.declared.Side.{Side}
 use Rattle.terms.specs.declared.Term.{Term}
@@ -77,7 +77,7 @@ venue members instruments =
       instruments = λ i. slice_index_or instruments i blank_instrument;
       rows = λ _ _. [];
       given = 0;
-      sheet = record { factor = λ i. cond (get_or instruments i blank_instrument).defined 100 0; held = λ _. no_lots };
+      sheet = record { factor = λ i. cond (slice_index_or instruments i blank_instrument).defined 100 0; held = λ _. no_lots };
     }
 
 -- The same member and the same instrument at every number, also past the last.

@@ -33,11 +33,11 @@ impl Reckoner {
 impl Keeper for Reckoner {
     const REACH: u32 = 100_000;
 
+    ghost REACH = { 100000 };
+
     ghost sheet = { λ keeper. sheet_of keeper.table };
 
     ghost charge = { summed standard_amount };
-
-    ghost reach = { 100000 };
 
     ghost reach_in_range = { Prim.search rules };
 

@@ -10,8 +10,11 @@ use terms::Side;
 ///
 /// A factor is 1 to 100,000 rupees a lot. Members are 0 to 31, instruments 0 to 15.
 pub trait Keeper {
-    /// The most lots that one total may reach, 1 to 100,000.
+    /// The keeper's reach: the most lots that one total may come to, 1 to 100,000.
     const REACH: u32;
+
+    /// The same constant, for clauses.
+    ghost REACH: { ℕ };
 
     /// The factors and totals that the keeper holds.
     ghost sheet: { Self → Sheet };
@@ -19,12 +22,9 @@ pub trait Keeper {
     /// The charge on factors and one member's totals.
     ghost charge: { Charge };
 
-    /// The constant `REACH`, for clauses, which cannot name an associated constant.
-    ghost reach: { ℕ };
-
     /// `REACH`, for generic code that has to know it.
     fn highest_total() -> u32
-        ensures { result ≡ reach };
+        ensures { result ≡ REACH };
 
     /// Gives an instrument its factor, once.
     fn set_factor(&mut self, instrument: u8, factor: u32) -> Result<(), KeeperRefusal>
@@ -39,8 +39,8 @@ pub trait Keeper {
         side: Side,
         lots: u32,
     ) -> Result<(), KeeperRefusal>
-        ensures answer { is_ok result ≡ can_record reach (sheet self.old) member instrument side lots }
-        ensures after { sheet self.new ≡ after_record reach (sheet self.old) member instrument side lots };
+        ensures answer { is_ok result ≡ can_record REACH (sheet self.old) member instrument side lots }
+        ensures after { sheet self.new ≡ after_record REACH (sheet self.old) member instrument side lots };
 
     /// One of a member's totals; 0 for a member or an instrument out of range.
     fn held(&self, member: u8, instrument: u8, side: Side) -> u32
@@ -58,13 +58,13 @@ pub trait Keeper {
         side: Side,
         lots: u32,
     ) -> Result<u64, KeeperRefusal>
-        ensures { result ≡ need_with charge reach (sheet self.now) member instrument side lots };
+        ensures { result ≡ need_with charge REACH (sheet self.now) member instrument side lots };
 
-    ghost reach_in_range: { ReachInRange reach };
+    ghost reach_in_range: { ReachInRange REACH };
 
-    ghost sheet_is_lawful: { (keeper : Self) → Lawful reach (sheet keeper) };
+    ghost sheet_is_lawful: { (keeper : Self) → Lawful REACH (sheet keeper) };
 
     ghost no_lots_no_charge: { NoLotsNoCharge charge };
 
-    ghost rise_bounded: { RiseBounded charge reach };
+    ghost rise_bounded: { RiseBounded charge REACH };
 }

@@ -13,8 +13,8 @@ pub fn record_trade<K: Keeper>(
     instrument: u8,
     lots: u32,
 ) -> Result<(), KeeperRefusal>
-    ensures answer { is_ok result ≡ can_record_trade K.Keeper.reach (K.Keeper.sheet keeper.old) buyer seller instrument lots }
-    ensures after { K.Keeper.sheet keeper.new ≡ after_trade K.Keeper.reach (K.Keeper.sheet keeper.old) buyer seller instrument lots }
+    ensures answer { is_ok result ≡ can_record_trade K.Keeper.REACH (K.Keeper.sheet keeper.old) buyer seller instrument lots }
+    ensures after { K.Keeper.sheet keeper.new ≡ after_trade K.Keeper.REACH (K.Keeper.sheet keeper.old) buyer seller instrument lots }
 {
     // The seller's side is only asked about before the buyer's is recorded, so that a refusal of either alters nothing.
     keeper.need_with(seller, instrument, Side::Offer, lots)?;

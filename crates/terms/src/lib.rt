@@ -3,9 +3,10 @@
 #![tactic(auto)]
 
 /// The side of an interest rate swap that a member takes.
-#[derive(Clone, Copy, PartialEq, Eq, Debug)]
+#[derive(Clone, Copy, Default, PartialEq, Eq, Debug)]
 pub enum Side {
     /// Pays the fixed rate: its lots are bought.
+    #[default]
     Bid,
     /// Receives the fixed rate: its lots are sold.
     Offer,
@@ -21,7 +22,7 @@ pub enum Term {
 }
 
 /// A pending order: one that waits to be met.
-#[derive(Clone, Copy, PartialEq, Eq, Debug)]
+#[derive(Clone, Copy, Default, PartialEq, Eq, Debug)]
 pub struct Order {
     /// In ten-thousandths of a per cent; rates may be below 0.
     pub rate: i32,

@@ -42,7 +42,7 @@ impl<K: Keeper> Venue<K> {
         number: u16,
         events: &mut [Event],
     ) -> Result<usize, Refusal>
-        ensures { Obeys K.Keeper.charge K.Keeper.reach (Cancel member number) (market_of K.Keeper.sheet self.old) (market_of K.Keeper.sheet self.new) (as_answer CancelledCount result) events.old events.new }
+        ensures { Obeys K.Keeper.charge K.Keeper.REACH (Cancel member number) (market_of K.Keeper.sheet self.old) (market_of K.Keeper.sheet self.new) (as_answer CancelledCount result) events.old events.new }
     {
         self.check_cancel(member, number, events.len())?;
         Ok(self.cancel_one(member, number, events))
@@ -50,7 +50,7 @@ impl<K: Keeper> Venue<K> {
 
     /// Cancels all of a member's pending orders, lowest number first, and answers how many events it told.
     pub fn cancel_all(&mut self, member: u8, events: &mut [Event]) -> Result<usize, Refusal>
-        ensures { Obeys K.Keeper.charge K.Keeper.reach (CancelAll member) (market_of K.Keeper.sheet self.old) (market_of K.Keeper.sheet self.new) (as_answer CancelledCount result) events.old events.new }
+        ensures { Obeys K.Keeper.charge K.Keeper.REACH (CancelAll member) (market_of K.Keeper.sheet self.old) (market_of K.Keeper.sheet self.new) (as_answer CancelledCount result) events.old events.new }
     {
         self.check_cancel_all(member, events.len())?;
         Ok(self.cancel_of(member, events))
@@ -58,7 +58,7 @@ impl<K: Keeper> Venue<K> {
 
     /// Ends the day: cancels all pending orders, lowest number first, and answers how many events it told.
     pub fn close(&mut self, events: &mut [Event]) -> Result<usize, Refusal>
-        ensures { Obeys K.Keeper.charge K.Keeper.reach Close (market_of K.Keeper.sheet self.old) (market_of K.Keeper.sheet self.new) (as_answer CancelledCount result) events.old events.new }
+        ensures { Obeys K.Keeper.charge K.Keeper.REACH Close (market_of K.Keeper.sheet self.old) (market_of K.Keeper.sheet self.new) (as_answer CancelledCount result) events.old events.new }
     {
         self.check_close(events.len())?;
         Ok(self.close_checked(events))
@@ -117,21 +117,21 @@ impl<K: Keeper> Venue<K> {
 
     fn cancel_one(&mut self, member: u8, number: u16, events: &mut [Event]) -> usize
         requires { Ok tt ≡ checked (cancel_grounds (length events.old) (market_of K.Keeper.sheet self.old) member number) }
-        ensures { Obeys K.Keeper.charge K.Keeper.reach (Cancel member number) (market_of K.Keeper.sheet self.old) (market_of K.Keeper.sheet self.new) (Ok (CancelledCount result)) events.old events.new }
+        ensures { Obeys K.Keeper.charge K.Keeper.REACH (Cancel member number) (market_of K.Keeper.sheet self.old) (market_of K.Keeper.sheet self.new) (Ok (CancelledCount result)) events.old events.new }
     {
         self.cancel_picked(Picked::One { member, number }, Reason::Asked, events, 0)
     }
 
     fn cancel_of(&mut self, member: u8, events: &mut [Event]) -> usize
         requires { Ok tt ≡ checked (cancel_all_grounds (length events.old) (market_of K.Keeper.sheet self.old) member) }
-        ensures { Obeys K.Keeper.charge K.Keeper.reach (CancelAll member) (market_of K.Keeper.sheet self.old) (market_of K.Keeper.sheet self.new) (Ok (CancelledCount result)) events.old events.new }
+        ensures { Obeys K.Keeper.charge K.Keeper.REACH (CancelAll member) (market_of K.Keeper.sheet self.old) (market_of K.Keeper.sheet self.new) (Ok (CancelledCount result)) events.old events.new }
     {
         self.cancel_picked(Picked::OfMember(member), Reason::Asked, events, 0)
     }
 
     fn close_checked(&mut self, events: &mut [Event]) -> usize
         requires { Ok tt ≡ checked (close_grounds (length events.old) (market_of K.Keeper.sheet self.old)) }
-        ensures { Obeys K.Keeper.charge K.Keeper.reach Close (market_of K.Keeper.sheet self.old) (market_of K.Keeper.sheet self.new) (Ok (CancelledCount result)) events.old events.new }
+        ensures { Obeys K.Keeper.charge K.Keeper.REACH Close (market_of K.Keeper.sheet self.old) (market_of K.Keeper.sheet self.new) (Ok (CancelledCount result)) events.old events.new }
     {
         self.phase = Phase::Closed;
         self.cancel_picked(Picked::All, Reason::Closing, events, 0)

@@ -19,7 +19,7 @@ pub const HIGHEST_DEPOSIT: u128 = 1_000_000_000_000;
 impl<K: Keeper> Venue<K> {
     /// Adds to a member's deposit, and judges the member.
     pub fn deposit(&mut self, member: u8, amount: u64) -> Result<(), Refusal>
-        ensures { Obeys K.Keeper.charge K.Keeper.reach (Deposit member amount) (market_of K.Keeper.sheet self.old) (market_of K.Keeper.sheet self.new) (as_answer (λ _. Done) result) [] [] }
+        ensures { Obeys K.Keeper.charge K.Keeper.REACH (Deposit member amount) (market_of K.Keeper.sheet self.old) (market_of K.Keeper.sheet self.new) (as_answer (λ _. Done) result) [] [] }
     {
         self.check_deposit(member, amount)?;
         let deposit = self.members.rows[member as usize].deposit + amount;
@@ -29,7 +29,7 @@ impl<K: Keeper> Venue<K> {
 
     /// Takes from a member's deposit what its need leaves free, and judges the member.
     pub fn withdraw(&mut self, member: u8, amount: u64) -> Result<(), Refusal>
-        ensures { Obeys K.Keeper.charge K.Keeper.reach (Withdraw member amount) (market_of K.Keeper.sheet self.old) (market_of K.Keeper.sheet self.new) (as_answer (λ _. Done) result) [] [] }
+        ensures { Obeys K.Keeper.charge K.Keeper.REACH (Withdraw member amount) (market_of K.Keeper.sheet self.old) (market_of K.Keeper.sheet self.new) (as_answer (λ _. Done) result) [] [] }
     {
         self.check_withdraw(member, amount)?;
         let deposit = self.members.rows[member as usize].deposit - amount;
@@ -60,7 +60,7 @@ impl<K: Keeper> Venue<K> {
     }
 
     fn check_withdraw(&self, member: u8, amount: u64) -> Result<(), Refusal>
-        ensures { result ≡ checked (withdraw_grounds K.Keeper.charge K.Keeper.reach (market_of K.Keeper.sheet self.now) member amount) }
+        ensures { result ≡ checked (withdraw_grounds K.Keeper.charge K.Keeper.REACH (market_of K.Keeper.sheet self.now) member amount) }
     {
         if matches!(self.phase, Phase::Closed) {
             return Err(Refusal::WrongPhase);
@@ -88,7 +88,7 @@ impl<K: Keeper> Venue<K> {
     // Only this member's row is changed.
     fn change_deposit(&mut self, member: u8, deposit: u64)
         requires { member < 32 }
-        ensures { market_of K.Keeper.sheet self.new ≡ deposit_changed K.Keeper.charge K.Keeper.reach (market_of K.Keeper.sheet self.old) member deposit }
+        ensures { market_of K.Keeper.sheet self.new ≡ deposit_changed K.Keeper.charge K.Keeper.REACH (market_of K.Keeper.sheet self.old) member deposit }
     {
         let need = self.keeper.need(member);
         let row = &mut self.members.rows[member as usize];

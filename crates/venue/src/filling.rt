@@ -25,7 +25,7 @@ pub(crate) struct Turn {
 impl<K: Keeper> Venue<K> {
     // Whether so many lots of an order would lower its member's need.
     pub(crate) fn lowers_need(&self, new: &NewOrder, lots: u16) -> bool
-        ensures { result ≡ lowers_need K.Keeper.charge K.Keeper.reach (market_of K.Keeper.sheet self.now) new.now lots }
+        ensures { result ≡ lowers_need K.Keeper.charge K.Keeper.REACH (market_of K.Keeper.sheet self.now) new.now lots }
     {
         match self
             .keeper
@@ -39,7 +39,7 @@ impl<K: Keeper> Venue<K> {
     // A member in reduction mode may only trade what lowers its need.
     pub(crate) fn is_hindered(&self, new: &NewOrder, lots: u16) -> bool
         requires { new.now.member < 32 }
-        ensures { result ≡ is_hindered K.Keeper.charge K.Keeper.reach (market_of K.Keeper.sheet self.now) new.now lots }
+        ensures { result ≡ is_hindered K.Keeper.charge K.Keeper.REACH (market_of K.Keeper.sheet self.now) new.now lots }
     {
         match self.members.rows[new.member as usize].mode {
             Mode::Reduction => !self.lowers_need(new, lots),
@@ -49,7 +49,7 @@ impl<K: Keeper> Venue<K> {
 
     // The lots leave the pending order, and the keeper records both sides. Over a fresh keeper there is nothing to refuse.
     fn trade(&mut self, new: &NewOrder, pending: &Order, lots: u16)
-        ensures market { market_of K.Keeper.sheet self.new ≡ after_first_fill K.Keeper.reach (market_of K.Keeper.sheet self.old) new.now pending.now lots }
+        ensures market { market_of K.Keeper.sheet self.new ≡ after_first_fill K.Keeper.REACH (market_of K.Keeper.sheet self.old) new.now pending.now lots }
     {
         self.book.fill(opposite_of(new.side), new.instrument, lots);
         let (buyer, seller) = match new.side {
@@ -72,7 +72,7 @@ impl<K: Keeper> Venue<K> {
         requires in_range { (new.now.instrument < 16) × (0 < rest) }
         requires room_for_events { told + pending_count (market_of K.Keeper.sheet self.old) + 1 ≤ length events.old }
         requires pending_is_first { Some pending.now ≡ first_of ((market_of K.Keeper.sheet self.old).rows (opposite new.now.side) new.now.instrument) }
-        ensures turned { Turned (fill_first K.Keeper.charge K.Keeper.reach number new.now (meeting_at (market_of K.Keeper.sheet self.old) rest) ((market_of K.Keeper.sheet self.old).rows (opposite new.now.side) new.now.instrument)) (market_of K.Keeper.sheet self.new) result.rest result.meets events.old events.new told result.told }
+        ensures turned { Turned (fill_first K.Keeper.charge K.Keeper.REACH number new.now (meeting_at (market_of K.Keeper.sheet self.old) rest) ((market_of K.Keeper.sheet self.old).rows (opposite new.now.side) new.now.instrument)) (market_of K.Keeper.sheet self.new) result.rest result.meets events.old events.new told result.told }
         ensures few { result.told + pending_count (market_of K.Keeper.sheet self.new) + min 1 result.rest ≤ told + pending_count (market_of K.Keeper.sheet self.old) + 1 }
         ensures going { result.meets ≡ true → 0 < result.rest }
     {

@@ -79,7 +79,7 @@ fn listed(answered: Result<ListingCounts, Refusal>) -> Result<Answer, Refusal>
 impl<K: Keeper> Venue<K> {
     /// Makes any call, or asks any question, and answers as it does. A listing answers its counts.
     pub fn make(&mut self, call: Call, events: &mut [Event]) -> Result<Answer, Refusal>
-        ensures { Obeys K.Keeper.charge K.Keeper.reach call (market_of K.Keeper.sheet self.old) (market_of K.Keeper.sheet self.new) result events.old events.new }
+        ensures { Obeys K.Keeper.charge K.Keeper.REACH call (market_of K.Keeper.sheet self.old) (market_of K.Keeper.sheet self.new) result events.old events.new }
     {
         match call {
             Call::Admit {
@@ -108,7 +108,7 @@ impl<K: Keeper> Venue<K> {
 
     // The counts of a listing, as if a list of so many places were lent for it.
     fn count_listing(&self, instrument: u8, places: usize) -> Result<ListingCounts, Refusal>
-        ensures { as_answer Listing result ≡ (outcome K.Keeper.charge K.Keeper.reach places (market_of K.Keeper.sheet self.now) (AskListing instrument)).answer }
+        ensures { as_answer Listing result ≡ (outcome K.Keeper.charge K.Keeper.REACH places (market_of K.Keeper.sheet self.now) (AskListing instrument)).answer }
     {
         if places < 257 {
             return Err(Refusal::ListTooShort);

@@ -27,7 +27,7 @@ impl<K: Keeper> Venue<K> {
     ) -> Turn
         requires in_range { (new.now.member < 32) × ((new.now.instrument < 16) × (0 < rest)) }
         requires room_for_events { told + pending_count (market_of K.Keeper.sheet self.old) + 1 ≤ length events.old }
-        ensures turned { Turned (turned_by K.Keeper.charge K.Keeper.reach number new.now (meeting_at (market_of K.Keeper.sheet self.old) rest)) (market_of K.Keeper.sheet self.new) result.rest result.meets events.old events.new told result.told }
+        ensures turned { Turned (turned_by K.Keeper.charge K.Keeper.REACH number new.now (meeting_at (market_of K.Keeper.sheet self.old) rest)) (market_of K.Keeper.sheet self.new) result.rest result.meets events.old events.new told result.told }
         ensures few { result.told + pending_count (market_of K.Keeper.sheet self.new) + min 1 result.rest ≤ told + pending_count (market_of K.Keeper.sheet self.old) + 1 }
         ensures going { result.meets ≡ true → 0 < result.rest }
     {
@@ -58,7 +58,7 @@ impl<K: Keeper> Venue<K> {
     pub(crate) fn meet(&mut self, number: u16, new: &NewOrder, events: &mut [Event]) -> Turn
         requires in_range { (new.now.member < 32) × ((new.now.instrument < 16) × (0 < new.now.lots)) }
         requires room_for_events { pending_count (market_of K.Keeper.sheet self.old) + 1 ≤ length events.old }
-        ensures turned { Turned (met K.Keeper.charge K.Keeper.reach number new.now (market_of K.Keeper.sheet self.old)) (market_of K.Keeper.sheet self.new) result.rest result.meets events.old events.new 0 result.told }
+        ensures turned { Turned (met K.Keeper.charge K.Keeper.REACH number new.now (market_of K.Keeper.sheet self.old)) (market_of K.Keeper.sheet self.new) result.rest result.meets events.old events.new 0 result.told }
         ensures few { result.told + pending_count (market_of K.Keeper.sheet self.new) + min 1 result.rest ≤ pending_count (market_of K.Keeper.sheet self.old) + 1 }
     {
         let mut rest = new.lots;

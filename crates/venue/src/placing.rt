@@ -89,7 +89,7 @@ impl<K: Keeper> Venue<K> {
 
 impl<K: Keeper> Venue<K> {
     fn check_entry(&self, new: &NewOrder, places: usize) -> Result<(), Refusal>
-        ensures { result ≡ checked (entry_grounds K.Keeper.charge K.Keeper.reach places (market_of K.Keeper.sheet self.now) new.now) }
+        ensures { result ≡ checked (entry_grounds K.Keeper.charge K.Keeper.REACH places (market_of K.Keeper.sheet self.now) new.now) }
     {
         if places < 257 {
             return Err(Refusal::ListTooShort);
@@ -128,7 +128,7 @@ impl<K: Keeper> Venue<K> {
 
     fn check_limits(&self, new: &NewOrder) -> Result<(), Refusal>
         requires { (new.now.member < 32) × (new.now.instrument < 16) }
-        ensures { result ≡ checked (limit_grounds K.Keeper.charge K.Keeper.reach (market_of K.Keeper.sheet self.now) new.now) }
+        ensures { result ≡ checked (limit_grounds K.Keeper.charge K.Keeper.REACH (market_of K.Keeper.sheet self.now) new.now) }
     {
         let member = &self.members.rows[new.member as usize];
         let lots = new.lots as u32;
@@ -152,7 +152,7 @@ impl<K: Keeper> Venue<K> {
 
     fn check_mode(&self, new: &NewOrder) -> Result<(), Refusal>
         requires { new.now.member < 32 }
-        ensures { result ≡ checked (mode_grounds K.Keeper.charge K.Keeper.reach (market_of K.Keeper.sheet self.now) new.now) }
+        ensures { result ≡ checked (mode_grounds K.Keeper.charge K.Keeper.REACH (market_of K.Keeper.sheet self.now) new.now) }
     {
         let is_day = matches!(new.term, Term::Day);
         if matches!(self.members.rows[new.member as usize].mode, Mode::Reduction) {
@@ -173,7 +173,7 @@ impl<K: Keeper> Venue<K> {
     }
 
     fn check_place(&self, new: &NewOrder, places: usize) -> Result<(), Refusal>
-        ensures { result ≡ checked (place_grounds K.Keeper.charge K.Keeper.reach places (market_of K.Keeper.sheet self.now) new.now) }
+        ensures { result ≡ checked (place_grounds K.Keeper.charge K.Keeper.REACH places (market_of K.Keeper.sheet self.now) new.now) }
     {
         match self.check_entry(new, places) {
             Ok(()) => self.check_limits_and_mode(new),
@@ -183,7 +183,7 @@ impl<K: Keeper> Venue<K> {
 
     fn check_limits_and_mode(&self, new: &NewOrder) -> Result<(), Refusal>
         requires { (new.now.member < 32) × (new.now.instrument < 16) }
-        ensures { result ≡ checked (limit_grounds K.Keeper.charge K.Keeper.reach (market_of K.Keeper.sheet self.now) new.now ++ mode_grounds K.Keeper.charge K.Keeper.reach (market_of K.Keeper.sheet self.now) new.now) }
+        ensures { result ≡ checked (limit_grounds K.Keeper.charge K.Keeper.REACH (market_of K.Keeper.sheet self.now) new.now ++ mode_grounds K.Keeper.charge K.Keeper.REACH (market_of K.Keeper.sheet self.now) new.now) }
     {
         match self.check_limits(new) {
             Ok(()) => self.check_mode(new),
@@ -195,15 +195,15 @@ impl<K: Keeper> Venue<K> {
 impl<K: Keeper> Venue<K> {
     /// Places an order: it meets the opposite orders of its instrument, and its rest becomes pending or is cancelled.
     pub fn place(&mut self, new: NewOrder, events: &mut [Event]) -> Result<Placed, Refusal>
-        ensures { Obeys K.Keeper.charge K.Keeper.reach (Place new) (market_of K.Keeper.sheet self.old) (market_of K.Keeper.sheet self.new) (as_answer PlacedAs result) events.old events.new }
+        ensures { Obeys K.Keeper.charge K.Keeper.REACH (Place new) (market_of K.Keeper.sheet self.old) (market_of K.Keeper.sheet self.new) (as_answer PlacedAs result) events.old events.new }
     {
         self.check_place(&new, events.len())?;
         Ok(self.place_checked(&new, events))
     }
 
     fn place_checked(&mut self, new: &NewOrder, events: &mut [Event]) -> Placed
-        requires { Ok tt ≡ checked (place_grounds K.Keeper.charge K.Keeper.reach (length events.old) (market_of K.Keeper.sheet self.old) new.now) }
-        ensures { Obeys K.Keeper.charge K.Keeper.reach (Place new.now) (market_of K.Keeper.sheet self.old) (market_of K.Keeper.sheet self.new) (Ok (PlacedAs result)) events.old events.new }
+        requires { Ok tt ≡ checked (place_grounds K.Keeper.charge K.Keeper.REACH (length events.old) (market_of K.Keeper.sheet self.old) new.now) }
+        ensures { Obeys K.Keeper.charge K.Keeper.REACH (Place new.now) (market_of K.Keeper.sheet self.old) (market_of K.Keeper.sheet self.new) (Ok (PlacedAs result)) events.old events.new }
     {
         let number = self.given + 1;
         self.given = number;

@@ -17,7 +17,7 @@ use terms::Side;
 impl<K: Keeper> Venue<K> {
     /// Need, deposit and mode of a member.
     pub fn standing(&self, member: u8) -> Result<Standing, Refusal>
-        ensures { Obeys K.Keeper.charge K.Keeper.reach (AskStanding member) (market_of K.Keeper.sheet self.now) (market_of K.Keeper.sheet self.now) (as_answer StandingIs result) [] [] }
+        ensures { Obeys K.Keeper.charge K.Keeper.REACH (AskStanding member) (market_of K.Keeper.sheet self.now) (market_of K.Keeper.sheet self.now) (as_answer StandingIs result) [] [] }
     {
         if member > 31 {
             return Err(Refusal::NoSuchMember);
@@ -35,7 +35,7 @@ impl<K: Keeper> Venue<K> {
 
     /// Rate and lots of the first bid and of the first offer, each none on an empty side.
     pub fn quotes(&self, instrument: u8) -> Result<(Option<Quote>, Option<Quote>), Refusal>
-        ensures { Obeys K.Keeper.charge K.Keeper.reach (AskQuotes instrument) (market_of K.Keeper.sheet self.now) (market_of K.Keeper.sheet self.now) (as_answer (λ pair. Quotes pair.0 pair.1) result) [] [] }
+        ensures { Obeys K.Keeper.charge K.Keeper.REACH (AskQuotes instrument) (market_of K.Keeper.sheet self.now) (market_of K.Keeper.sheet self.now) (as_answer (λ pair. Quotes pair.0 pair.1) result) [] [] }
     {
         if instrument > 15 {
             return Err(Refusal::NoSuchInstrument);
@@ -63,7 +63,7 @@ impl<K: Keeper> Venue<K> {
 
     /// Writes an instrument's bids first to last and then its offers from the list's first place on, and answers how many.
     pub fn listing(&self, instrument: u8, list: &mut [Listed]) -> Result<ListingCounts, Refusal>
-        ensures answer { as_answer Listing result ≡ (outcome K.Keeper.charge K.Keeper.reach (length list.old) (market_of K.Keeper.sheet self.now) (AskListing instrument)).answer }
+        ensures answer { as_answer Listing result ≡ (outcome K.Keeper.charge K.Keeper.REACH (length list.old) (market_of K.Keeper.sheet self.now) (AskListing instrument)).answer }
         ensures list { list.new ≡ (if is_ok result then listing (market_of K.Keeper.sheet self.now) instrument ++ drop (length (listing (market_of K.Keeper.sheet self.now) instrument)) list.old else list.old) }
     {
         if list.len() < 257 {

@@ -61,7 +61,7 @@ impl<K: Keeper> Venue<K> {
 
     /// Gives a member its benchmarks and limits. It begins with no deposit, in reduction mode.
     pub fn admit(&mut self, member: u8, benchmarks: u8, limits: Limits) -> Result<(), Refusal>
-        ensures { Obeys K.Keeper.charge K.Keeper.reach (Admit member benchmarks limits) (market_of K.Keeper.sheet self.old) (market_of K.Keeper.sheet self.new) (as_answer (λ _. Done) result) [] [] }
+        ensures { Obeys K.Keeper.charge K.Keeper.REACH (Admit member benchmarks limits) (market_of K.Keeper.sheet self.old) (market_of K.Keeper.sheet self.new) (as_answer (λ _. Done) result) [] [] }
     {
         self.check_admit(member, benchmarks, &limits)?;
         self.enter_member(member, benchmarks, limits);
@@ -76,7 +76,7 @@ impl<K: Keeper> Venue<K> {
         group: u8,
         factor: u32,
     ) -> Result<(), Refusal>
-        ensures { Obeys K.Keeper.charge K.Keeper.reach (Define instrument benchmark group factor) (market_of K.Keeper.sheet self.old) (market_of K.Keeper.sheet self.new) (as_answer (λ _. Done) result) [] [] }
+        ensures { Obeys K.Keeper.charge K.Keeper.REACH (Define instrument benchmark group factor) (market_of K.Keeper.sheet self.old) (market_of K.Keeper.sheet self.new) (as_answer (λ _. Done) result) [] [] }
     {
         self.check_define(instrument, benchmark, group, factor)?;
         self.enter_instrument(instrument, benchmark, group);
@@ -86,7 +86,7 @@ impl<K: Keeper> Venue<K> {
 
     /// Ends set-up: orders may be placed.
     pub fn open(&mut self) -> Result<(), Refusal>
-        ensures { Obeys K.Keeper.charge K.Keeper.reach Open (market_of K.Keeper.sheet self.old) (market_of K.Keeper.sheet self.new) (as_answer (λ _. Done) result) [] [] }
+        ensures { Obeys K.Keeper.charge K.Keeper.REACH Open (market_of K.Keeper.sheet self.old) (market_of K.Keeper.sheet self.new) (as_answer (λ _. Done) result) [] [] }
     {
         if !matches!(self.phase, Phase::SetUp) {
             return Err(Refusal::WrongPhase);

@@ -64,7 +64,7 @@ fn call_for(request: Request) -> Call
 impl<K: Keeper> Venue<K> {
     /// Reads a message and makes its call.
     pub fn submit(&mut self, message: &[u8], events: &mut [Event]) -> Result<Answer, Fault>
-        ensures { Submits K.Keeper.charge K.Keeper.reach message.now (market_of K.Keeper.sheet self.old) (market_of K.Keeper.sheet self.new) result events.old events.new }
+        ensures { Submits K.Keeper.charge K.Keeper.REACH message.now (market_of K.Keeper.sheet self.old) (market_of K.Keeper.sheet self.new) result events.old events.new }
     {
         let request = read(message)?;
         let answer = self.make(call_for(request), events)?;

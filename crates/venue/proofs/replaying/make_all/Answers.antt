@@ -12,7 +12,7 @@ use Rattle.venue.proofs.replaying.make_all.Goals as goal
 pub loop-i-preserved : goal.loop-i-preserved
 loop-i-preserved g c =
     let charge = g.K.Keeper.charge in
-    let reach = g.K.Keeper.reach in
+    let reach = g.K.Keeper.REACH in
     let M = market_of g.K.Keeper.sheet c.loop-i.venue in
     let N = market_of g.K.Keeper.sheet c.make.new.self in
     let blank : Call = Admit 0 0 (record { up_to_one_year = 0; up_to_five_years = 0; over_five_years = 0 }) in
@@ -27,7 +27,7 @@ loop-i-preserved g c =
 pub returns : goal.returns
 returns g c =
     let charge = g.K.Keeper.charge in
-    let reach = g.K.Keeper.reach in
+    let reach = g.K.Keeper.REACH in
     let M = market_of g.K.Keeper.sheet c.loop-i.venue in
     let places = length c.args.events.now in
     let none = drop_all c.loop-i.i c.args.log.now (omega arith) in

@@ -7,7 +7,7 @@ use Rattle.venue.proofs.replaying.make_all.Given as goal
 -- The end from the start is the end from here, of the venue and of the list.
 abbrev pub invariant-loop-i : goal.invariant-loop-i
 invariant-loop-i g l =
-    (market_at_end g.K.Keeper.charge g.K.Keeper.reach (market_of g.K.Keeper.sheet l.initial.venue) (made_with (length l.initial.events) l.log)
-    ≡ market_at_end g.K.Keeper.charge g.K.Keeper.reach (market_of g.K.Keeper.sheet l.venue) (made_with (length l.initial.events) (drop l.i l.log)))
-    × (list_at_end g.K.Keeper.charge g.K.Keeper.reach (market_of g.K.Keeper.sheet l.initial.venue) (made_with (length l.initial.events) l.log) l.initial.events
-    ≡ list_at_end g.K.Keeper.charge g.K.Keeper.reach (market_of g.K.Keeper.sheet l.venue) (made_with (length l.initial.events) (drop l.i l.log)) l.events)
+    (market_at_end g.K.Keeper.charge g.K.Keeper.REACH (market_of g.K.Keeper.sheet l.initial.venue) (made_with (length l.initial.events) l.log)
+    ≡ market_at_end g.K.Keeper.charge g.K.Keeper.REACH (market_of g.K.Keeper.sheet l.venue) (made_with (length l.initial.events) (drop l.i l.log)))
+    × (list_at_end g.K.Keeper.charge g.K.Keeper.REACH (market_of g.K.Keeper.sheet l.initial.venue) (made_with (length l.initial.events) l.log) l.initial.events
+    ≡ list_at_end g.K.Keeper.charge g.K.Keeper.REACH (market_of g.K.Keeper.sheet l.venue) (made_with (length l.initial.events) (drop l.i l.log)) l.events)

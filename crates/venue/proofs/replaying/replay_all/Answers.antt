@@ -9,7 +9,7 @@ use Rattle.venue.proofs.replaying.replay_all.Goals as goal
 pub returns : goal.returns
 returns g c =
     let charge = g.K.Keeper.charge in
-    let reach = g.K.Keeper.reach in
+    let reach = g.K.Keeper.REACH in
     let calls = made_with (length c.args.events.now) c.args.log.now in
     let became = c.make_all.ensures.became ∙ ap (λ (M : Market). market_at_end charge reach M calls) c.begin.ensures in
     record {

@@ -8,10 +8,10 @@ pub returns-in-Err : goal.returns-in-Err
 returns-in-Err g c =
     let M = market_of g.K.Keeper.sheet c.args.self.now in
     let new = c.args.new.now in
-    checked_first (entry_grounds g.K.Keeper.charge g.K.Keeper.reach c.args.places M new) (limit_grounds g.K.Keeper.charge g.K.Keeper.reach M new ++ mode_grounds g.K.Keeper.charge g.K.Keeper.reach M new) c.in-Err.refusal c.in-Err.ensures
+    checked_first (entry_grounds g.K.Keeper.charge g.K.Keeper.REACH c.args.places M new) (limit_grounds g.K.Keeper.charge g.K.Keeper.REACH M new ++ mode_grounds g.K.Keeper.charge g.K.Keeper.REACH M new) c.in-Err.refusal c.in-Err.ensures
 
 pub returns-in-Ok : goal.returns-in-Ok
 returns-in-Ok g c =
     let M = market_of g.K.Keeper.sheet c.args.self.now in
     let new = c.args.new.now in
-    c.check_limits_and_mode.ensures ∙ checked_next (entry_grounds g.K.Keeper.charge g.K.Keeper.reach c.args.places M new) (limit_grounds g.K.Keeper.charge g.K.Keeper.reach M new ++ mode_grounds g.K.Keeper.charge g.K.Keeper.reach M new) tt c.in-Ok.ensures
+    c.check_limits_and_mode.ensures ∙ checked_next (entry_grounds g.K.Keeper.charge g.K.Keeper.REACH c.args.places M new) (limit_grounds g.K.Keeper.charge g.K.Keeper.REACH M new ++ mode_grounds g.K.Keeper.charge g.K.Keeper.REACH M new) tt c.in-Ok.ensures

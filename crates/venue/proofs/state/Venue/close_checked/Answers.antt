@@ -17,4 +17,4 @@ cancel_picked-requires g c =
 pub returns : goal.returns
 returns g c =
     let did = c.cancel_picked.ensures.did in
-    obeys_accepted g.K.Keeper.charge g.K.Keeper.reach Close (market_of g.K.Keeper.sheet c.args.self.now) (market_of g.K.Keeper.sheet c.cancel_picked.new.self) (CancelledCount c.cancel_picked.result) c.args.events.now c.cancel_picked.new.events c.cancel_picked.result c.requires did.market_is refl did.wrote
+    obeys_accepted g.K.Keeper.charge g.K.Keeper.REACH Close (market_of g.K.Keeper.sheet c.args.self.now) (market_of g.K.Keeper.sheet c.cancel_picked.new.self) (CancelledCount c.cancel_picked.result) c.args.events.now c.cancel_picked.new.events c.cancel_picked.result c.requires did.market_is refl did.wrote

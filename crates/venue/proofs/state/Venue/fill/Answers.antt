@@ -12,19 +12,19 @@ use Rattle.venue.proofs.state.Venue.fill.Goals as goal
 
 pub judge-placing-requires : goal.judge-placing-requires
 judge-placing-requires g c =
-    let few = trade_few g.K.Keeper.reach (market_of g.K.Keeper.sheet c.args.self.now) c.args.new.now c.args.pending.now c.args.rest c.min-lots.result c.requires.in_range.0 c.requires.in_range.1 c.min-lots.ensures c.requires.pending_is_first in
+    let few = trade_few g.K.Keeper.REACH (market_of g.K.Keeper.sheet c.args.self.now) c.args.new.now c.args.pending.now c.args.rest c.min-lots.result c.requires.in_range.0 c.requires.in_range.1 c.min-lots.ensures c.requires.pending_is_first in
     let after = ap pending_count c.trade.ensures.market in
     omega (arith, c.tell-told.ensures.count, c.tell-told.auto.events, c.requires.room_for_events)
 
 pub tell_rest-told-requires : goal.tell_rest-told-requires
 tell_rest-told-requires g c =
-    let few = trade_few g.K.Keeper.reach (market_of g.K.Keeper.sheet c.args.self.now) c.args.new.now c.args.pending.now c.args.rest c.min-lots.result c.requires.in_range.0 c.requires.in_range.1 c.min-lots.ensures c.requires.pending_is_first in
+    let few = trade_few g.K.Keeper.REACH (market_of g.K.Keeper.sheet c.args.self.now) c.args.new.now c.args.pending.now c.args.rest c.min-lots.result c.requires.in_range.0 c.requires.in_range.1 c.min-lots.ensures c.requires.pending_is_first in
     let after = ap pending_count c.trade.ensures.market in
     omega (arith, c.tell-told.ensures.count, c.tell-told.auto.events, c.judge-placing.ensures.few, c.judge-placing.auto.events, c.requires.room_for_events)
 
 pub judge-other-requires : goal.judge-other-requires
 judge-other-requires g c =
-    let few = trade_few g.K.Keeper.reach (market_of g.K.Keeper.sheet c.args.self.now) c.args.new.now c.args.pending.now c.args.rest c.min-lots.result c.requires.in_range.0 c.requires.in_range.1 c.min-lots.ensures c.requires.pending_is_first in
+    let few = trade_few g.K.Keeper.REACH (market_of g.K.Keeper.sheet c.args.self.now) c.args.new.now c.args.pending.now c.args.rest c.min-lots.result c.requires.in_range.0 c.requires.in_range.1 c.min-lots.ensures c.requires.pending_is_first in
     let after = ap pending_count c.trade.ensures.market in
     let one = rest_few c.args.number c.args.new.now TurnedToReduction (c.args.rest - c.min-lots.result) in
     omega (arith, c.tell-told.ensures.count, c.tell-told.auto.events, c.judge-placing.ensures.few, c.judge-placing.auto.events, c.tell_rest-told.ensures.count, c.tell_rest-told.auto.events, c.requires.room_for_events)
@@ -32,12 +32,12 @@ judge-other-requires g c =
 pub returns-then-placing : goal.returns-then-placing
 returns-then-placing g c =
     let M = market_of g.K.Keeper.sheet c.args.self.now in
-    let few = trade_few g.K.Keeper.reach M c.args.new.now c.args.pending.now c.args.rest c.min-lots.result c.requires.in_range.0 c.requires.in_range.1 c.min-lots.ensures c.requires.pending_is_first in
+    let few = trade_few g.K.Keeper.REACH M c.args.new.now c.args.pending.now c.args.rest c.min-lots.result c.requires.in_range.0 c.requires.in_range.1 c.min-lots.ensures c.requires.pending_is_first in
     let after = ap pending_count c.trade.ensures.market in
     let one = rest_few c.args.number c.args.new.now TurnedToReduction (c.args.rest - c.min-lots.result) in
     record {
       turned =
-          filled_first g.K.Keeper.charge g.K.Keeper.reach c.args.number c.args.new.now M (market_of g.K.Keeper.sheet c.trade.new.self) (market_of g.K.Keeper.sheet c.judge-placing.new.self) (market_of g.K.Keeper.sheet c.judge-other.new.self) c.args.rest c.min-lots.result c.args.pending.now true
+          filled_first g.K.Keeper.charge g.K.Keeper.REACH c.args.number c.args.new.now M (market_of g.K.Keeper.sheet c.trade.new.self) (market_of g.K.Keeper.sheet c.judge-placing.new.self) (market_of g.K.Keeper.sheet c.judge-other.new.self) c.args.rest c.min-lots.result c.args.pending.now true
           c.args.events.now c.tell-told.new.events c.judge-placing.new.events c.tell_rest-told.new.events c.judge-other.new.events c.args.told c.tell-told.result c.judge-placing.result.told c.tell_rest-told.result c.judge-other.result.told
           c.min-lots.ensures c.requires.pending_is_first c.trade.ensures.market
           (subst (λ (t : Trade). Wrote c.args.events.now c.tell-told.new.events c.args.told c.tell-told.result (Traded t ∷ [])) c.trade_of.ensures c.tell-told.ensures)
@@ -48,18 +48,18 @@ returns-then-placing g c =
 
 pub judge-other-requires-2 : goal.judge-other-requires-2
 judge-other-requires-2 g c =
-    let few = trade_few g.K.Keeper.reach (market_of g.K.Keeper.sheet c.args.self.now) c.args.new.now c.args.pending.now c.args.rest c.min-lots.result c.requires.in_range.0 c.requires.in_range.1 c.min-lots.ensures c.requires.pending_is_first in
+    let few = trade_few g.K.Keeper.REACH (market_of g.K.Keeper.sheet c.args.self.now) c.args.new.now c.args.pending.now c.args.rest c.min-lots.result c.requires.in_range.0 c.requires.in_range.1 c.min-lots.ensures c.requires.pending_is_first in
     let after = ap pending_count c.trade.ensures.market in
     omega (arith, c.tell-told.ensures.count, c.tell-told.auto.events, c.judge-placing.ensures.few, c.judge-placing.auto.events, c.requires.room_for_events)
 
 pub returns : goal.returns
 returns g c =
     let M = market_of g.K.Keeper.sheet c.args.self.now in
-    let few = trade_few g.K.Keeper.reach M c.args.new.now c.args.pending.now c.args.rest c.min-lots.result c.requires.in_range.0 c.requires.in_range.1 c.min-lots.ensures c.requires.pending_is_first in
+    let few = trade_few g.K.Keeper.REACH M c.args.new.now c.args.pending.now c.args.rest c.min-lots.result c.requires.in_range.0 c.requires.in_range.1 c.min-lots.ensures c.requires.pending_is_first in
     let after = ap pending_count c.trade.ensures.market in
     record {
       turned =
-          filled_first g.K.Keeper.charge g.K.Keeper.reach c.args.number c.args.new.now M (market_of g.K.Keeper.sheet c.trade.new.self) (market_of g.K.Keeper.sheet c.judge-placing.new.self) (market_of g.K.Keeper.sheet c.judge-other-2.new.self) c.args.rest c.min-lots.result c.args.pending.now false
+          filled_first g.K.Keeper.charge g.K.Keeper.REACH c.args.number c.args.new.now M (market_of g.K.Keeper.sheet c.trade.new.self) (market_of g.K.Keeper.sheet c.judge-placing.new.self) (market_of g.K.Keeper.sheet c.judge-other-2.new.self) c.args.rest c.min-lots.result c.args.pending.now false
           c.args.events.now c.tell-told.new.events c.judge-placing.new.events c.judge-placing.new.events c.judge-other-2.new.events c.args.told c.tell-told.result c.judge-placing.result.told c.judge-placing.result.told c.judge-other-2.result.told
           c.min-lots.ensures c.requires.pending_is_first c.trade.ensures.market
           (subst (λ (t : Trade). Wrote c.args.events.now c.tell-told.new.events c.args.told c.tell-told.result (Traded t ∷ [])) c.trade_of.ensures c.tell-told.ensures)

@@ -13,15 +13,15 @@ returns-in-Admit g c =
     let M = market_of g.K.Keeper.sheet c.args.self.now in
     let N = market_of g.K.Keeper.sheet c.admit.new.self in
     let list = c.args.events.now in
-    subst (λ (call : Call). Obeys g.K.Keeper.charge g.K.Keeper.reach call M N c.done.result list list) (sym c.in-Admit.is)
-    (subst (λ (a : Result Answer Refusal). Obeys g.K.Keeper.charge g.K.Keeper.reach (Admit c.in-Admit.member c.in-Admit.benchmarks c.in-Admit.limits) M N a list list) (sym c.done.ensures)
-    (admit_any_list g.K.Keeper.charge g.K.Keeper.reach c.in-Admit.member c.in-Admit.benchmarks c.in-Admit.limits M N _ list c.admit.ensures))
+    subst (λ (call : Call). Obeys g.K.Keeper.charge g.K.Keeper.REACH call M N c.done.result list list) (sym c.in-Admit.is)
+    (subst (λ (a : Result Answer Refusal). Obeys g.K.Keeper.charge g.K.Keeper.REACH (Admit c.in-Admit.member c.in-Admit.benchmarks c.in-Admit.limits) M N a list list) (sym c.done.ensures)
+    (admit_any_list g.K.Keeper.charge g.K.Keeper.REACH c.in-Admit.member c.in-Admit.benchmarks c.in-Admit.limits M N _ list c.admit.ensures))
 
 pub returns-in-Define : goal.returns-in-Define
 returns-in-Define g c =
     let M = market_of g.K.Keeper.sheet c.args.self.now in
     let N = market_of g.K.Keeper.sheet c.define.new.self in
     let list = c.args.events.now in
-    subst (λ (call : Call). Obeys g.K.Keeper.charge g.K.Keeper.reach call M N c.done-in-Define.result list list) (sym c.in-Define.is)
-    (subst (λ (a : Result Answer Refusal). Obeys g.K.Keeper.charge g.K.Keeper.reach (Define c.in-Define.instrument c.in-Define.benchmark c.in-Define.group c.in-Define.factor) M N a list list) (sym c.done-in-Define.ensures)
-    (define_any_list g.K.Keeper.charge g.K.Keeper.reach c.in-Define.instrument c.in-Define.benchmark c.in-Define.group c.in-Define.factor M N _ list c.define.ensures))
+    subst (λ (call : Call). Obeys g.K.Keeper.charge g.K.Keeper.REACH call M N c.done-in-Define.result list list) (sym c.in-Define.is)
+    (subst (λ (a : Result Answer Refusal). Obeys g.K.Keeper.charge g.K.Keeper.REACH (Define c.in-Define.instrument c.in-Define.benchmark c.in-Define.group c.in-Define.factor) M N a list list) (sym c.done-in-Define.ensures)
+    (define_any_list g.K.Keeper.charge g.K.Keeper.REACH c.in-Define.instrument c.in-Define.benchmark c.in-Define.group c.in-Define.factor M N _ list c.define.ensures))

@@ -12,11 +12,9 @@ use Rattle.market.specs.declared.calls.Phase.TheVariants.{Open as OpenPhase, Clo
 use Rattle.market.specs.declared.events.Event.{Event}
 use Rattle.market.specs.declared.events.Reason.TheVariants.{Asked, Closing}
 use Rattle.market.specs.declared.instruments.Benchmark.TheVariants.{Mibor}
-use Rattle.market.specs.declared.instruments.Instrument.{Instrument}
 use Rattle.market.specs.declared.instruments.TenorGroup.TheVariants.{UpToOneYear}
 use Rattle.market.specs.declared.members.Benchmarks.TheVariants.{Mibor as OnlyMibor}
 use Rattle.market.specs.declared.members.Limits.{Limits}
-use Rattle.market.specs.declared.members.Member.{Member}
 use Rattle.market.specs.declared.members.Mode.TheVariants.{Reduction}
 use Rattle.market.specs.declared.orders.Quote.{Quote}
 use Rattle.market.specs.declared.refusals.Refusal.{Refusal}
@@ -26,6 +24,7 @@ use Rattle.market.specs.Cancels.{cancelling}
 use Rattle.market.specs.Modes.{need, judged_member, with_deposit}
 use Rattle.market.specs.Meeting.{placed}
 use Rattle.market.specs.Grounds.{checked, grounds, is_order}
+use Rattle.market.specs.TableRows.{Member, Instrument}
 
 -- The answer of a call with what it told and the venue that it leaves.
 pub record Outcome : Type 0 where

@@ -1,6 +1,7 @@
 pub mod Numbers
 pub mod Wording
 pub mod Answers
+pub mod TableRows
 pub mod Markets
 pub mod Limits
 pub mod Cancels

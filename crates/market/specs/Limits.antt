@@ -7,7 +7,7 @@ use Rattle.market.specs.declared.instruments.TenorGroup.TheVariants.{UpToOneYear
 use Rattle.market.specs.declared.members.Benchmarks.{Benchmarks}
 use Rattle.market.specs.declared.members.Benchmarks.TheVariants.{Mibor as OnlyMibor, Mmfor as OnlyMmfor, Both}
 use Rattle.market.specs.declared.members.Limits.{Limits}
-use Rattle.market.specs.declared.members.Member.{Member}
+use Rattle.market.specs.TableRows.{Member}
 
 abbrev pub opted : Benchmarks → Benchmark → Bool
 opted OnlyMibor Mibor = true

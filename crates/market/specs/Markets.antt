@@ -9,13 +9,8 @@ use Rattle.margin.specs.Sheets.{Sheet, fresh_sheet}
 use Rattle.market.specs.declared.calls.Phase.{Phase}
 use Rattle.market.specs.declared.calls.Phase.TheVariants.{SetUp}
 use Rattle.market.specs.declared.events.Event.{Event}
-use Rattle.market.specs.declared.instruments.Benchmark.TheVariants.{Mibor}
-use Rattle.market.specs.declared.instruments.Instrument.{Instrument}
-use Rattle.market.specs.declared.instruments.TenorGroup.TheVariants.{UpToOneYear}
-use Rattle.market.specs.declared.members.Benchmarks.TheVariants.{Mibor as OnlyMibor}
-use Rattle.market.specs.declared.members.Member.{Member}
-use Rattle.market.specs.declared.members.Mode.TheVariants.{Reduction}
 use Rattle.market.specs.declared.orders.Listed.{Listed}
+use Rattle.market.specs.TableRows.{Member, Instrument, blank_member, blank_instrument}
 
 -- The pending orders of each side of each instrument, in the sequence in which they will be met.
 abbrev pub Rows : Type 0
@@ -31,19 +26,6 @@ pub record Market : Type 0 where
   pub sheet : Sheet
 
 -- ---- a venue as it begins
-
-abbrev pub blank_member : Member
-blank_member =
-    record {
-      admitted = false;
-      benchmarks = OnlyMibor;
-      limits = record { up_to_one_year = 0; up_to_five_years = 0; over_five_years = 0 };
-      deposit = 0;
-      mode = Reduction;
-    }
-
-abbrev pub blank_instrument : Instrument
-blank_instrument = record { defined = false; benchmark = Mibor; group = UpToOneYear }
 
 -- Over a keeper that holds this sheet.
 abbrev pub begun : Sheet → Market

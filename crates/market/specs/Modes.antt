@@ -2,11 +2,11 @@
 use Rattle.std.specs.Prelude.{ℕ, ◌*◌, Bool, true, false, cond, not, ◌&&◌, nat_le, nat_lt}
 use Rattle.margin.specs.Sheets.{Charge, need_of}
 use Rattle.market.specs.declared.events.Reason.TheVariants.{TurnedToReduction}
-use Rattle.market.specs.declared.members.Member.{Member}
 use Rattle.market.specs.declared.members.Mode.{Mode}
 use Rattle.market.specs.declared.members.Mode.TheVariants.{Reduction, Normal}
 use Rattle.market.specs.Markets.{Market, Told, with_member, is_of}
 use Rattle.market.specs.Cancels.{cancelling}
+use Rattle.market.specs.TableRows.{Member}
 
 -- At 95 hundredths of the deposit or more the mode is reduction; below 90 it is normal; between them it stays as it was.
 abbrev pub judged : ℕ → ℕ → Mode → Mode

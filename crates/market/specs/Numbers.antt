@@ -1,5 +1,5 @@
 -- The numbers of the market's words: one definition by case for each.
-use Rattle.std.specs.Prelude.{ℕ, cond, Some, None, Option, ◌==◌}
+use Rattle.std.specs.Prelude.{ℕ, cond, Some, None, Ok, Err, Option, Result, ◌==◌}
 use Rattle.market.specs.declared.instruments.Benchmark.{Benchmark}
 use Rattle.market.specs.declared.instruments.Benchmark.TheVariants.{Mibor, Mmfor}
 use Rattle.market.specs.declared.instruments.TenorGroup.{TenorGroup}
@@ -8,8 +8,14 @@ use Rattle.market.specs.declared.members.Benchmarks.{Benchmarks}
 use Rattle.market.specs.declared.members.Benchmarks.TheVariants.{Mibor as OnlyMibor, Mmfor as OnlyMmfor, Both}
 use Rattle.market.specs.declared.events.Reason.{Reason}
 use Rattle.market.specs.declared.events.Reason.TheVariants.{Asked, NotMetAtOnce, OwnOrder, TurnedToReduction, NeedNotLowered as NotLowered, Closing}
+use Rattle.market.specs.declared.numbers.UnknownNumber.{UnknownNumber}
 use Rattle.market.specs.declared.refusals.Refusal.{Refusal}
 use Rattle.market.specs.declared.refusals.Refusal.TheVariants.{ListTooShort, WrongPhase, NoSuchMember, NoSuchInstrument, AlreadyThere, ValueOutOfRange, AmountOutOfRange, DepositNeeded, BenchmarkNotOpted, LotsOutOfRange, RateOutOfRange, AccumulatedLimitPassed, OverFiveYearsLimitPassed, ReachPassed, DayOrderInReduction, NeedNotLowered, NoSuchOrder, BookFull, NumbersUsedUp}
+
+-- What a number is read as, the number itself being the error.
+abbrev pub or_unknown : {A : Type 0} → ℕ → Option A → Result A UnknownNumber
+or_unknown n None = Err (record { number = n })
+or_unknown n (Some word) = Ok word
 
 abbrev pub benchmark_number : Benchmark → ℕ
 benchmark_number Mibor = 0

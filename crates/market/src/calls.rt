@@ -15,7 +15,7 @@ pub enum Phase {
 }
 
 /// A call of a venue. Its values may be any: the venue refuses those that the rules refuse.
-#[derive(Clone, Copy)]
+#[derive(Clone, Copy, PartialEq, Eq, Debug)]
 pub enum Call {
     /// Benchmarks by number: 1 MIBOR, 2 MMFOR, 3 both.
     Admit {
@@ -63,21 +63,21 @@ pub enum Call {
 }
 
 /// An accepted order's number, and how many events the call told.
-#[derive(Clone, Copy)]
+#[derive(Clone, Copy, PartialEq, Eq, Debug)]
 pub struct Placed {
     pub number: u16,
     pub events: usize,
 }
 
 /// How many bids and offers a listing has.
-#[derive(Clone, Copy)]
+#[derive(Clone, Copy, PartialEq, Eq, Debug)]
 pub struct ListingCounts {
     pub bids: usize,
     pub offers: usize,
 }
 
 /// What a call that is not refused answers.
-#[derive(Clone, Copy)]
+#[derive(Clone, Copy, PartialEq, Eq, Debug)]
 pub enum Answer {
     /// Of a call that tells no events: admit, define, open, deposit and withdraw.
     Done,

@@ -1,3 +1,8 @@
+ghost use Rattle.std.specs.Prelude.{Some};
+ghost use Rattle.market.specs.Wording.{reason_words};
+
+use std::fmt;
+
 /// Why an order, or what was left of it, was cancelled.
 #[derive(Clone, Copy, PartialEq, Eq, Debug)]
 pub enum Reason {
@@ -15,8 +20,16 @@ pub enum Reason {
     Closing,
 }
 
+impl fmt::Display for Reason {
+    ghost output = { λ reason. Some (reason_words reason) };
+
+    fn fmt<W: fmt::Write>(&self, f: &mut fmt::Formatter<W>) -> fmt::Result {
+        f.write_str(self.words())
+    }
+}
+
 /// Lots of an instrument change hands at a fixed rate.
-#[derive(Clone, Copy)]
+#[derive(Clone, Copy, PartialEq, Eq, Debug)]
 pub struct Trade {
     pub instrument: u8,
     /// Pays the fixed rate.
@@ -30,7 +43,7 @@ pub struct Trade {
 }
 
 /// An order leaves the market with lots that were not traded.
-#[derive(Clone, Copy)]
+#[derive(Clone, Copy, PartialEq, Eq, Debug)]
 pub struct Cancellation {
     pub number: u16,
     pub member: u8,
@@ -39,7 +52,7 @@ pub struct Cancellation {
 }
 
 /// What a call tells, in the sequence in which it happened.
-#[derive(Clone, Copy)]
+#[derive(Clone, Copy, PartialEq, Eq, Debug)]
 pub enum Event {
     Traded(Trade),
     Cancelled(Cancellation),

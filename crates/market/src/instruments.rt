@@ -16,10 +16,9 @@ pub enum TenorGroup {
     OverFiveYears,
 }
 
-/// A row of the table of instruments. Its factor is with the margin keeper.
-#[derive(Clone, Copy)]
+/// An instrument that is defined. Its factor is with the margin keeper.
+#[derive(Clone, Copy, PartialEq, Eq, Debug)]
 pub struct Instrument {
-    pub defined: bool,
     pub benchmark: Benchmark,
     pub group: TenorGroup,
 }

@@ -15,17 +15,16 @@ pub enum Mode {
 }
 
 /// A member's single order limits: the most lots of one order, for each group of tenors.
-#[derive(Clone, Copy)]
+#[derive(Clone, Copy, PartialEq, Eq, Debug)]
 pub struct Limits {
     pub up_to_one_year: u16,
     pub up_to_five_years: u16,
     pub over_five_years: u16,
 }
 
-/// A row of the table of members.
-#[derive(Clone, Copy)]
+/// A member that is admitted.
+#[derive(Clone, Copy, PartialEq, Eq, Debug)]
 pub struct Member {
-    pub admitted: bool,
     pub benchmarks: Benchmarks,
     pub limits: Limits,
     /// In half-rupees.
@@ -34,7 +33,7 @@ pub struct Member {
 }
 
 /// What a member is told of itself.
-#[derive(Clone, Copy)]
+#[derive(Clone, Copy, PartialEq, Eq, Debug)]
 pub struct Standing {
     /// The margin charged on its trades, in half-rupees.
     pub need: u64,

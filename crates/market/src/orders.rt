@@ -1,7 +1,7 @@
 use terms::{Side, Term};
 
 /// An order as it is placed.
-#[derive(Clone, Copy)]
+#[derive(Clone, Copy, PartialEq, Eq, Debug)]
 pub struct NewOrder {
     pub member: u8,
     pub instrument: u8,
@@ -13,14 +13,14 @@ pub struct NewOrder {
 }
 
 /// Rate and lots of the first order of a side.
-#[derive(Clone, Copy)]
+#[derive(Clone, Copy, PartialEq, Eq, Debug)]
 pub struct Quote {
     pub rate: i32,
     pub lots: u16,
 }
 
 /// A place of an instrument's listing: one pending order with its side.
-#[derive(Clone, Copy)]
+#[derive(Clone, Copy, Default, PartialEq, Eq, Debug)]
 pub struct Listed {
     pub side: Side,
     pub rate: i32,

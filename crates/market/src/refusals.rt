@@ -1,3 +1,9 @@
+ghost use Rattle.std.specs.Prelude.{Some};
+ghost use Rattle.market.specs.Wording.{refusal_words};
+
+use std::error::Error;
+use std::fmt;
+
 /// Why a venue refuses a call. Grounds are tested in this sequence, and the first one met is the answer.
 #[derive(Clone, Copy, PartialEq, Eq, Debug)]
 pub enum Refusal {
@@ -40,3 +46,13 @@ pub enum Refusal {
     /// All 65,535 numbers are given out.
     NumbersUsedUp,
 }
+
+impl fmt::Display for Refusal {
+    ghost output = { λ refusal. Some (refusal_words refusal) };
+
+    fn fmt<W: fmt::Write>(&self, f: &mut fmt::Formatter<W>) -> fmt::Result {
+        f.write_str(self.words())
+    }
+}
+
+impl Error for Refusal {}

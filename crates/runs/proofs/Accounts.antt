@@ -11,7 +11,6 @@ use Rattle.market.specs.declared.events.Event.{Event}
 use Rattle.market.specs.declared.events.Event.TheVariants.{Traded}
 use Rattle.market.specs.declared.events.Reason.{Reason}
 use Rattle.market.specs.declared.events.Trade.{Trade}
-use Rattle.market.specs.declared.members.Member.{Member}
 use Rattle.market.specs.declared.members.Mode.{Mode}
 use Rattle.market.specs.declared.orders.NewOrder.{NewOrder}
 use Rattle.market.specs.Markets.{sum_over, lots_of}
@@ -19,6 +18,7 @@ use Rattle.market.specs.Limits.{highest_limit}
 use Rattle.market.specs.Cancels.{cancelled}
 use Rattle.market.specs.Modes.{judged, judged_member}
 use Rattle.market.specs.Meeting.{by_side, rest_cancelled, order_of, trade_of}
+use Rattle.market.specs.TableRows.{Member}
 use Rattle.runs.specs.Ledgers.{Ledger, add_lots, trade_entry, cancel_entry, owed, judge_entry, event_entry, event_entries}
 use Rattle.runs.proofs.Orders.{Members}
 use Rattle.market.proofs.Sums.{eqb_swap}

@@ -12,7 +12,6 @@ use Rattle.market.specs.declared.calls.Call.{Call}
 use Rattle.market.specs.declared.calls.Phase.{Phase}
 use Rattle.market.specs.declared.calls.Phase.TheVariants.{SetUp, Open, Closed}
 use Rattle.market.specs.declared.events.Reason.{Reason}
-use Rattle.market.specs.declared.members.Member.{Member}
 use Rattle.market.specs.declared.members.Mode.{Mode}
 use Rattle.market.specs.declared.members.Mode.TheVariants.{Normal}
 use Rattle.market.specs.Markets.{Market, Told, with_phase}
@@ -20,6 +19,7 @@ use Rattle.market.specs.Limits.{highest_limit}
 use Rattle.market.specs.Cancels.{cancelling, picked_orders}
 use Rattle.market.specs.Modes.{judged, judged_member, with_deposit, need}
 use Rattle.market.specs.Calls.{deposit_changed}
+use Rattle.market.specs.TableRows.{Member}
 use Rattle.runs.specs.Ledgers.{Ledger, deposit_entry, calling_member, judge_entry, event_entries, call_entry}
 use Rattle.runs.specs.Promises.{EventsReduceRisk}
 use Rattle.runs.proofs.Orders.{orderly_changed, orderly_later, stands_by}

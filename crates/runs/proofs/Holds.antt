@@ -11,7 +11,6 @@ use Rattle.margin.specs.Laws.{Within, RiseBounded}
 use Rattle.market.specs.declared.events.Event.{Event}
 use Rattle.market.specs.declared.events.Event.TheVariants.{Traded}
 use Rattle.market.specs.declared.events.Reason.{Reason}
-use Rattle.market.specs.declared.instruments.Instrument.{Instrument}
 use Rattle.market.specs.declared.members.Mode.TheVariants.{Reduction}
 use Rattle.market.specs.declared.orders.NewOrder.{NewOrder}
 use Rattle.market.specs.Markets.{Market, Rows, put_row, is_of, lots_of, pending_lots}
@@ -19,6 +18,7 @@ use Rattle.market.specs.Limits.{highest_limit}
 use Rattle.market.specs.Cancels.{cancelled, rows_without, picked_orders, cancelling}
 use Rattle.market.specs.Modes.{judged, need, has_fallen, judge}
 use Rattle.market.specs.Meeting.{opposite, by_side, row_filled, trade_of, rest_cancelled, after_fill}
+use Rattle.market.specs.TableRows.{Instrument}
 use Rattle.runs.specs.Ledgers.{Ledger, event_entry, event_entries}
 use Rattle.market.proofs.Weights.{book_sum_without, book_sum_put}
 use Rattle.runs.proofs.Orders.{Stands, Orderly, orderly_without, orderly_judged, orderly_filled}

@@ -6,12 +6,12 @@ use Rattle.terms.specs.Tables.{put}
 use Rattle.terms.proofs.Tables.{put_cases}
 use Rattle.margin.specs.Sheets.{Totals, Sheet, Charge, raised, need_of}
 use Rattle.margin.specs.Laws.{Within, RiseBounded}
-use Rattle.market.specs.declared.members.Member.{Member}
 use Rattle.market.specs.declared.members.Mode.{Mode}
 use Rattle.market.specs.declared.members.Mode.TheVariants.{Reduction, Normal}
 use Rattle.market.specs.Limits.{highest_limit}
 use Rattle.market.specs.Modes.{judged, judged_member}
 use Rattle.market.specs.Meeting.{opposite}
+use Rattle.market.specs.TableRows.{Member}
 use Rattle.runs.specs.Promises.{highest_below}
 use Rattle.runs.proofs.Highest.{at_most_highest}
 use Rattle.runs.proofs.Orders.{Members}

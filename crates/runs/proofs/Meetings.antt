@@ -15,8 +15,6 @@ use Rattle.market.specs.declared.events.Event.{Event}
 use Rattle.market.specs.declared.events.Event.TheVariants.{Traded}
 use Rattle.market.specs.declared.events.Reason.{Reason}
 use Rattle.market.specs.declared.events.Reason.TheVariants.{OwnOrder, TurnedToReduction, NeedNotLowered}
-use Rattle.market.specs.declared.instruments.Instrument.{Instrument}
-use Rattle.market.specs.declared.members.Member.{Member}
 use Rattle.market.specs.declared.members.Mode.{Mode}
 use Rattle.market.specs.declared.members.Mode.TheVariants.{Reduction, Normal}
 use Rattle.market.specs.declared.orders.NewOrder.{NewOrder}
@@ -25,6 +23,7 @@ use Rattle.market.specs.Limits.{highest_limit}
 use Rattle.market.specs.Cancels.{picked_orders}
 use Rattle.market.specs.Modes.{judged, judged_member, is_reduction, falls, need, has_fallen, judge}
 use Rattle.market.specs.Meeting.{Meeting, opposite, by_side, apart, trade_of, rest_cancelled, ends, ends_cancelled, repeated, is_below, lowers_need, is_hindered, after_fill, fill, meeting_first, turn}
+use Rattle.market.specs.TableRows.{Member, Instrument}
 use Rattle.runs.specs.Ledgers.{Ledger, owed, trade_entry, event_entry, event_entries}
 use Rattle.runs.specs.Promises.{LowersNeed, EventsReduceRisk}
 use Rattle.runs.proofs.Sequence.{Sequenced, apart_from_all}

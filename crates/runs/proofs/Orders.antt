@@ -10,7 +10,6 @@ use Rattle.terms.specs.Tables.{put}
 use Rattle.terms.proofs.Tables.{put_cases}
 use Rattle.row.specs.Rates.{precedes}
 use Rattle.row.specs.Rows.{inserted}
-use Rattle.market.specs.declared.members.Member.{Member}
 use Rattle.market.specs.declared.members.Mode.{Mode}
 use Rattle.market.specs.declared.members.Mode.TheVariants.{Reduction, Normal}
 use Rattle.market.specs.Markets.{Rows, put_row, is_of}
@@ -18,6 +17,7 @@ use Rattle.market.specs.Limits.{highest_limit}
 use Rattle.market.specs.Cancels.{rows_without}
 use Rattle.market.specs.Modes.{falls, with_mode}
 use Rattle.market.specs.Meeting.{apart, opposite, row_filled}
+use Rattle.market.specs.TableRows.{Member}
 use Rattle.runs.specs.Promises.{Uncrossed}
 use Rattle.runs.proofs.Sequence.{Sequenced, all_inserted, sequenced_inserted, sequenced_kept, all_filled, sequenced_filled, uncrossed_kept, uncrossed_new_bid, uncrossed_new_offer, uncrossed_filled_bid, uncrossed_filled_offer}
 

@@ -8,11 +8,11 @@ use Rattle.terms.proofs.Tables.{put_cases, sum_zero}
 use Rattle.margin.specs.Sheets.{Charge, can_set_factor, with_factor, after_set_factor, need_of}
 use Rattle.margin.specs.Laws.{NoLotsNoCharge}
 use Rattle.market.specs.declared.members.Limits.{Limits}
-use Rattle.market.specs.declared.members.Member.{Member}
 use Rattle.market.specs.declared.members.Mode.TheVariants.{Reduction}
 use Rattle.market.specs.Markets.{Market, with_member, with_instrument, with_sheet, sum_over, lots_of, pending_in, pending_lots}
 use Rattle.market.specs.Limits.{highest_limit}
 use Rattle.market.specs.Calls.{admitted, defined}
+use Rattle.market.specs.TableRows.{Member}
 use Rattle.runs.specs.Ledgers.{Ledger, admit_entry, factor_entry}
 use Rattle.runs.proofs.Orders.{Stands}
 use Rattle.runs.proofs.Totals.{need_on, need_none}

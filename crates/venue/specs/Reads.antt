@@ -1,7 +1,8 @@
 -- A venue as the rules see it.
 use Rattle.std.specs.Prelude.{cond, nat_lt, slice_index_or}
 use Rattle.margin.specs.Sheets.{Sheet}
-use Rattle.market.specs.Markets.{Market, blank_member, blank_instrument}
+use Rattle.market.specs.TableRows.{blank_member, blank_instrument}
+use Rattle.market.specs.Markets.{Market}
 use Rattle.book.specs.Reads.{rows_of}
 use Rattle.venue.specs.declared.state.Venue.{Venue}
 

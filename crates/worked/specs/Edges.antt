@@ -16,7 +16,8 @@ use Rattle.market.specs.declared.members.Mode.{Mode}
 use Rattle.market.specs.declared.members.Mode.TheVariants.{Reduction, Normal}
 use Rattle.market.specs.declared.refusals.Refusal.{Refusal}
 use Rattle.market.specs.declared.refusals.Refusal.TheVariants.{NoSuchMember, NoSuchInstrument, ValueOutOfRange, AmountOutOfRange, DepositNeeded, BenchmarkNotOpted, LotsOutOfRange, RateOutOfRange, ReachPassed, NeedNotLowered, BookFull, NumbersUsedUp}
-use Rattle.market.specs.Markets.{Market, fresh_market, blank_member, with_given}
+use Rattle.market.specs.TableRows.{blank_member}
+use Rattle.market.specs.Markets.{Market, fresh_market, with_given}
 use Rattle.worked.specs.Venues.{limits, limits_of, member_in, member_with, member_for_20_lots, instrument, venue, same_at_every_number, with_row, with_lots, ◌by◌, pending, one_lot_orders, order_at, order_in, order, outcome, answer_on, placed, standing}
 
 -- ---- admit and define

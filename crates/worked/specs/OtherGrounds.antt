@@ -11,7 +11,8 @@ use Rattle.market.specs.declared.calls.Phase.TheVariants.{SetUp, Open as OpenPha
 use Rattle.market.specs.declared.members.Mode.TheVariants.{Reduction, Normal}
 use Rattle.market.specs.declared.refusals.Refusal.{Refusal}
 use Rattle.market.specs.declared.refusals.Refusal.TheVariants.{ListTooShort, WrongPhase, NoSuchMember, NoSuchInstrument, AlreadyThere, ValueOutOfRange, AmountOutOfRange, DepositNeeded, NoSuchOrder}
-use Rattle.market.specs.Markets.{Market, blank_member, blank_instrument, with_phase, with_given}
+use Rattle.market.specs.TableRows.{blank_member, blank_instrument}
+use Rattle.market.specs.Markets.{Market, with_phase, with_given}
 use Rattle.worked.specs.Venues.{limits_of, member_in, instrument, venue, same_at_every_number, with_row, ◌by◌, pending, order, outcome, answer_on, placed, cancelled, standing}
 use Rattle.worked.specs.Attempts.{Attempt, answer_to, met_by, if_met}
 

@@ -4,14 +4,13 @@ use Rattle.terms.specs.declared.Side.TheVariants.{Bid, Offer}
 use Rattle.terms.specs.declared.Term.TheVariants.{Day, Immediate}
 use Rattle.market.specs.declared.calls.Phase.TheVariants.{SetUp, Open as OpenPhase}
 use Rattle.market.specs.declared.instruments.Benchmark.TheVariants.{Mibor}
-use Rattle.market.specs.declared.instruments.Instrument.{Instrument}
 use Rattle.market.specs.declared.instruments.TenorGroup.TheVariants.{UpToFiveYears, OverFiveYears}
 use Rattle.market.specs.declared.members.Benchmarks.TheVariants.{Mibor as OnlyMibor, Mmfor as OnlyMmfor}
-use Rattle.market.specs.declared.members.Member.{Member}
 use Rattle.market.specs.declared.members.Mode.TheVariants.{Reduction, Normal}
 use Rattle.market.specs.declared.refusals.Refusal.{Refusal}
 use Rattle.market.specs.declared.refusals.Refusal.TheVariants.{ListTooShort, WrongPhase, NoSuchMember, NoSuchInstrument, BenchmarkNotOpted, LotsOutOfRange, RateOutOfRange, AccumulatedLimitPassed, OverFiveYearsLimitPassed, ReachPassed, DayOrderInReduction, NeedNotLowered, BookFull, NumbersUsedUp}
 use Rattle.market.specs.Markets.{Market, with_phase, with_given}
+use Rattle.market.specs.TableRows.{Member, Instrument}
 use Rattle.worked.specs.Venues.{limits_of, instrument_of, venue, with_row, with_lots, ◌by◌, pending, one_lot_orders, order, placed}
 use Rattle.worked.specs.Attempts.{Attempt, answer_to, met_by, if_met}
 

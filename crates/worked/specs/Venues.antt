@@ -15,18 +15,17 @@ use Rattle.market.specs.declared.events.Event.{Event}
 use Rattle.market.specs.declared.events.Event.TheVariants.{Traded, Cancelled}
 use Rattle.market.specs.declared.events.Reason.{Reason}
 use Rattle.market.specs.declared.instruments.Benchmark.TheVariants.{Mibor}
-use Rattle.market.specs.declared.instruments.Instrument.{Instrument}
 use Rattle.market.specs.declared.instruments.TenorGroup.{TenorGroup}
 use Rattle.market.specs.declared.instruments.TenorGroup.TheVariants.{UpToFiveYears}
 use Rattle.market.specs.declared.members.Benchmarks.{Benchmarks}
 use Rattle.market.specs.declared.members.Benchmarks.TheVariants.{Mibor as OnlyMibor}
 use Rattle.market.specs.declared.members.Limits.{Limits}
-use Rattle.market.specs.declared.members.Member.{Member}
 use Rattle.market.specs.declared.members.Mode.{Mode}
 use Rattle.market.specs.declared.members.Mode.TheVariants.{Normal}
 use Rattle.market.specs.declared.refusals.Refusal.{Refusal}
-use Rattle.market.specs.Markets.{Market, blank_member, blank_instrument, pending_orders, put_row, with_rows, with_sheet}
+use Rattle.market.specs.Markets.{Market, pending_orders, put_row, with_rows, with_sheet}
 use Rattle.market.specs.Calls.{Outcome, step}
+use Rattle.market.specs.TableRows.{Member, Instrument, blank_member, blank_instrument}
 use Rattle.runs.specs.Deeds.{Made, Deed, deeds, market_at_end}
 
 -- ---- the keeper: the standard charge, and its reach

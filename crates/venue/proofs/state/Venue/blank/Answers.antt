@@ -1,8 +1,7 @@
 use Rattle.std.proofs.Common.{◌≡◌, ltb, get_or, replicate, refl, ap}
 use mathlib.Core.Path.{fun_ext}
 use Rattle.std.proofs.lemmas.Bool.{cond_both}
-use Rattle.market.specs.Markets.{blank_member, blank_instrument}
-use Rattle.market.specs.declared.members.Member.{Member}
+use Rattle.market.specs.TableRows.{Member, blank_member, blank_instrument}
 use Rattle.book.specs.Reads.{rows_in}
 use Rattle.venue.proofs.Tables.{get_or_replicate}
 use Rattle.venue.proofs.state.Venue.blank.Goals as goal

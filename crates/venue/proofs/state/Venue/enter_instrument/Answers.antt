@@ -1,6 +1,6 @@
 use Rattle.std.proofs.Common.{ap, ◌∙◌, arith}
 use Rattle.terms.specs.Tables.{put}
-use Rattle.market.specs.Markets.{blank_instrument}
+use Rattle.market.specs.TableRows.{blank_instrument}
 use Rattle.venue.specs.Reads.{market_of}
 use Rattle.venue.proofs.Tables.{table_set}
 use Rattle.venue.proofs.state.Venue.enter_instrument.Goals as goal

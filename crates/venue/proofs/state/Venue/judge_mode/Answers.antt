@@ -1,7 +1,7 @@
 use Rattle.std.proofs.Common.{◌≡◌, ltb, get_or, sym, ◌∙◌, arith}
 use Rattle.std.proofs.lemmas.Bool.{cond-false, le-ltb}
 use Rattle.terms.proofs.Tables.{put_same}
-use Rattle.market.specs.Markets.{blank_member}
+use Rattle.market.specs.TableRows.{blank_member}
 use Rattle.market.specs.Modes.{need as need_by, judged_member, judged, falls}
 use Rattle.venue.specs.Reads.{market_of}
 use Rattle.venue.proofs.state.Venue.judge_mode.Goals as goal

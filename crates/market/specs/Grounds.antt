@@ -13,6 +13,7 @@ use Rattle.market.specs.declared.members.Limits.{Limits}
 use Rattle.market.specs.declared.orders.NewOrder.{NewOrder}
 use Rattle.market.specs.declared.refusals.Refusal.{Refusal}
 use Rattle.market.specs.declared.refusals.Refusal.TheVariants.{ListTooShort, WrongPhase, NoSuchMember, NoSuchInstrument, AlreadyThere, ValueOutOfRange, AmountOutOfRange, DepositNeeded, BenchmarkNotOpted, LotsOutOfRange, RateOutOfRange, AccumulatedLimitPassed, OverFiveYearsLimitPassed, ReachPassed, DayOrderInReduction, NeedNotLowered, NoSuchOrder, BookFull, NumbersUsedUp}
+use Rattle.market.specs.TableRows.{Member, Instrument}
 use Rattle.market.specs.Numbers.{benchmark_numbered, group_numbered, benchmarks_numbered}
 use Rattle.market.specs.Markets.{Market, is_of, lots_of, pending_in, pending_lots, pending_orders}
 use Rattle.market.specs.Limits.{opted, is_over_five_years, limit_for, highest_limit, accumulated_limit}
@@ -141,6 +142,14 @@ quotes_grounds M i = (NoSuchInstrument when no_instrument M i) ∷ []
 abbrev pub listing_grounds : ℕ → Market → ℕ → List Ground
 listing_grounds places M i = (ListTooShort when is_short places) ∷ (NoSuchInstrument when no_instrument M i) ∷ []
 
+-- What this member may place in this instrument.
+abbrev pub term_grounds : NewOrder → Member → Instrument → List Ground
+term_grounds new member instrument =
+    (BenchmarkNotOpted when not (opted member.benchmarks instrument.benchmark))
+    ∷ (LotsOutOfRange when lots_out_of_range (limit_for instrument.group member.limits) new.lots)
+    ∷ (RateOutOfRange when rate_out_of_range new.rate)
+    ∷ []
+
 module _ (charge : Charge) (reach : ℕ) where
   -- What is left of the deposit has to keep the member's use of it below 95 hundredths.
   abbrev pub withdraw_grounds : Market → ℕ → ℕ → List Ground
@@ -154,16 +163,11 @@ module _ (charge : Charge) (reach : ℕ) where
   -- Who places what, and where.
   abbrev pub entry_grounds : ℕ → Market → NewOrder → List Ground
   entry_grounds places M new =
-      let member = M.members new.member in
-      let instrument = M.instruments new.instrument in
       (ListTooShort when is_short places)
       ∷ (WrongPhase when not (is_open M.phase))
       ∷ (NoSuchMember when no_member M new.member)
       ∷ (NoSuchInstrument when no_instrument M new.instrument)
-      ∷ (BenchmarkNotOpted when not (opted member.benchmarks instrument.benchmark))
-      ∷ (LotsOutOfRange when lots_out_of_range (limit_for instrument.group member.limits) new.lots)
-      ∷ (RateOutOfRange when rate_out_of_range new.rate)
-      ∷ []
+      ∷ term_grounds new (M.members new.member) (M.instruments new.instrument)
 
   -- How many lots the member may have pending and held.
   abbrev pub limit_grounds : Market → NewOrder → List Ground

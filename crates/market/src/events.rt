@@ -1,7 +1,10 @@
-ghost use Rattle.std.specs.Prelude.{Some};
+ghost use Rattle.std.specs.Prelude.{◌≡◌, Some};
+ghost use Rattle.market.specs.declared.events.Event.TheVariants.{Cancelled};
+ghost use Rattle.market.specs.Cancels.{cancelled};
 ghost use Rattle.market.specs.Wording.{reason_words};
 
 use std::fmt;
+use terms::Order;
 
 /// Why an order, or what was left of it, was cancelled.
 #[derive(Clone, Copy, PartialEq, Eq, Debug)]
@@ -49,6 +52,20 @@ pub struct Cancellation {
     pub member: u8,
     pub lots: u16,
     pub reason: Reason,
+}
+
+impl Cancellation {
+    /// Of a whole order, or of what is left of one.
+    pub fn of(order: &Order, reason: Reason) -> Self
+        ensures { Cancelled result ≡ cancelled reason order.now }
+    {
+        Cancellation {
+            number: order.number,
+            member: order.member,
+            lots: order.lots,
+            reason,
+        }
+    }
 }
 
 /// What a call tells, in the sequence in which it happened.

@@ -1,9 +1,13 @@
 -- Grounds tested in parts, and what is left once none is met.
-use Rattle.std.proofs.Common.{◌≡◌, ℕ, ◌≤◌, Bool, true, false, cond, List, [], ◌∷◌, ◌++◌, Ok, Err, refl, arith}
+use Rattle.std.proofs.Common.{◌≡◌, ℕ, ◌≤◌, Bool, true, false, cond, List, [], ◌∷◌, ◌++◌, length, Ok, Err, refl, arith}
 use Rattle.std.proofs.lemmas.Bool.{ltb-false}
 use Rattle.market.specs.declared.refusals.Refusal.{Refusal}
 use Rattle.market.specs.declared.refusals.Refusal.TheVariants.{ListTooShort}
+use Rattle.market.specs.Markets.{pending_orders}
 use Rattle.market.specs.Grounds.{Ground, ◌when◌, checked, is_short}
+use Rattle.book.specs.declared.books.Book.{Book}
+use Rattle.book.specs.Reads.{rows_of}
+use Rattle.book.proofs.Places.{count_is}
 
 pub checked_first : (gs hs : List Ground) (e : Refusal) → Err e ≡ checked gs → Err e ≡ checked (gs ++ hs)
 checked_first [] hs e h = absurd (let z : ◌≡◌ {A = ℕ} 0 1 = cc in omega arith)
@@ -28,3 +32,11 @@ long_enough places gs ok = go (is_short places) refl ok
     go : (b : Bool) → is_short places ≡ b → Ok tt ≡ cond b (Err ListTooShort) (checked gs) → 257 ≤ places
     go true e f = absurd (let z : ◌≡◌ {A = ℕ} 0 1 = cc in omega arith)
     go false e f = ltb-false places 257 e
+
+-- A book has 256 places.
+pub pending_few : (book : Book) → length (pending_orders (rows_of book)) ≤ 256
+pending_few book = let room = book.room in omega (arith, count_is book)
+
+-- So such a list has a place for each pending order.
+pub room_for_all : (book : Book) (places : ℕ) (gs : List Ground) → Ok tt ≡ checked ((ListTooShort when is_short places) ∷ gs) → length (pending_orders (rows_of book)) ≤ places
+room_for_all book places gs ok = omega (arith, long_enough places gs ok, pending_few book)

@@ -1,9 +1,9 @@
 pub mod Tables
+pub mod Checks
 pub mod Telling
 pub mod Fills
-pub mod Listings
 pub mod Meets
 pub mod Turning
-pub mod Checks
 pub mod Places
+pub mod Listings
 pub mod Runs

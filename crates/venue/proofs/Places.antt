@@ -21,7 +21,7 @@ use Rattle.market.proofs.Lists.{wrote_both}
 use Rattle.runs.proofs.Placings.{most_of}
 use Rattle.runs.proofs.Steps.{unmet, acceptable}
 use Rattle.venue.specs.Obeys.{Obeys}
-use Rattle.venue.specs.Turns.{pending_count, rest_settled, Turned, Did}
+use Rattle.venue.specs.Turns.{pending_count, rest_settled, Met, Did}
 
 -- ---- an accepted call
 
@@ -70,8 +70,8 @@ settled_is number new s = go (ltb 0 s.rest) new.term
     go true Immediate = refl
     go false t = ap (λ (es : List Event). record { market = s.market; events = es }) (append-nil s.events)
 
-pub place_obeys : (charge : Charge) (reach : ℕ) (new : NewOrder) (M N O : Market) (number left : ℕ) (meets : Bool) (ev0 ev1 ev2 : List Event) (t1 t2 : ℕ) → number ≡ suc M.given → Ok tt ≡ checked (place_grounds charge reach (length ev0) M new) → Turned (met charge reach number new (with_given M number)) N left meets ev0 ev1 0 t1 → Did (rest_settled number new N left) O ev1 ev2 t1 t2 → Obeys charge reach (Place new) M O (Ok (PlacedAs (record { number = number; events = t2 }))) ev0 ev2
-place_obeys charge reach new M N O number left meets ev0 ev1 ev2 t1 t2 is ok turned did =
+pub place_obeys : (charge : Charge) (reach : ℕ) (new : NewOrder) (M N O : Market) (number left : ℕ) (ev0 ev1 ev2 : List Event) (t1 t2 : ℕ) → number ≡ suc M.given → Ok tt ≡ checked (place_grounds charge reach (length ev0) M new) → Met (met charge reach number new (with_given M number)) N left ev0 ev1 0 t1 → Did (rest_settled number new N left) O ev1 ev2 t1 t2 → Obeys charge reach (Place new) M O (Ok (PlacedAs (record { number = number; events = t2 }))) ev0 ev2
+place_obeys charge reach new M N O number left ev0 ev1 ev2 t1 t2 is ok turned did =
     let s = met charge reach number new (with_given M number) in
     let whole = ap (λ n. settled n new (met charge reach n new (with_given M n))) is in
     let rest : rest_settled number new N left ≡ rest_settled number new s.market s.rest = λ k. rest_settled number new (turned.market_is k) (turned.rest_is k) in

@@ -1,32 +1,13 @@
--- Calls that tell no events, and calls one after another.
-use Rattle.std.proofs.Common.{◌≡◌, ℕ, ◌+◌, ◌<◌, List, [], ◌++◌, length, get_or, drop, Ok, Err, Result, sym, refl, ap, ◌∙◌}
+-- Calls of a log, one after another.
+use Rattle.std.proofs.Common.{◌≡◌, ℕ, ◌+◌, ◌<◌, List, ◌++◌, length, get_or, drop, sym, refl, ap, ◌∙◌}
 use Rattle.std.proofs.lemmas.List.{drop_more}
 use Rattle.margin.specs.Sheets.{Charge}
-use Rattle.market.specs.declared.calls.Answer.{Answer}
 use Rattle.market.specs.declared.calls.Call.{Call}
-use Rattle.market.specs.declared.calls.Call.TheVariants.{Admit, Define}
 use Rattle.market.specs.declared.events.Event.{Event}
-use Rattle.market.specs.declared.members.Limits.{Limits}
-use Rattle.market.specs.declared.refusals.Refusal.{Refusal}
 use Rattle.market.specs.Markets.{Market}
-use Rattle.market.specs.Grounds.{checked, grounds}
-use Rattle.market.specs.Calls.{Outcome, unless_refused, accepted, outcome, step}
+use Rattle.market.specs.Calls.{Outcome, outcome, step}
 use Rattle.runs.specs.Deeds.{market_at_end}
-use Rattle.venue.specs.Obeys.{Obeys}
 use Rattle.venue.specs.Replays.{made_with, list_at_end}
-
--- With any list: such a call neither looks at it nor writes to it.
-list_kept : (M : Market) (check : Result (Unit {0}) Refusal) (o : Outcome) (list : List Event) → o.events ≡ [] → list ≡ (unless_refused M check o).events ++ drop (length (unless_refused M check o).events) list
-list_kept M (Ok _) o list e = sym (ap (λ es. es ++ drop (length es) list) e)
-list_kept M (Err _) o list e = refl
-
-pub admit_any_list : (charge : Charge) (reach m benchmarks : ℕ) (limits : Limits) (M N : Market) (answer : Result Answer Refusal) (list : List Event) → Obeys charge reach (Admit m benchmarks limits) M N answer [] [] → Obeys charge reach (Admit m benchmarks limits) M N answer list list
-admit_any_list charge reach m benchmarks limits M N answer list h = record { answered = h.answered; became = h.became; told = list_kept M (checked (grounds charge reach (length list) M (Admit m benchmarks limits))) (accepted charge reach M (Admit m benchmarks limits)) list refl }
-
-pub define_any_list : (charge : Charge) (reach i benchmark group factor : ℕ) (M N : Market) (answer : Result Answer Refusal) (list : List Event) → Obeys charge reach (Define i benchmark group factor) M N answer [] [] → Obeys charge reach (Define i benchmark group factor) M N answer list list
-define_any_list charge reach i benchmark group factor M N answer list h = record { answered = h.answered; became = h.became; told = list_kept M (checked (grounds charge reach (length list) M (Define i benchmark group factor))) (accepted charge reach M (Define i benchmark group factor)) list refl }
-
--- ---- a log
 
 step_is_outcome : (charge : Charge) (reach places : ℕ) (M : Market) (call : Call) → outcome charge reach places M call ≡ step charge reach places M call
 unfolding step

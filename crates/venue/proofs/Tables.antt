@@ -1,16 +1,17 @@
 -- Tables as arrays.
-use Rattle.std.proofs.Common.{◌≡◌, ℕ, zero, suc, ◌<◌, List, length, get_or, set, replicate, sym, refl, ap, ◌∙◌}
-use mathlib.Core.Path.{fun_ext}
-use Rattle.std.proofs.lemmas.List.{get_or-set_same, get_or-set_other}
-use Rattle.terms.specs.Tables.{put}
-use Rattle.terms.proofs.Tables.{put_cases}
+use Rattle.std.proofs.Common.{◌≡◌, ℕ, zero, suc, ◌<◌, ltb, List, get_or, replicate, None, Option, refl, ap}
+use Rattle.std.proofs.lemmas.Bool.{cond_both, cond-true, lt-ltb}
+use Rattle.venue.specs.Reads.{row_at}
 
 pub get_or_replicate : {A : Type 0} (n k : ℕ) (x : A) → get_or (replicate n x) k x ≡ x
 get_or_replicate zero k x = refl
 get_or_replicate (suc n) zero x = refl
 get_or_replicate (suc n) (suc k) x = get_or_replicate n k x
 
--- A write to an array, seen as a table.
-pub table_set : {A : Type 0} (xs : List A) (m : ℕ) (a d : A) → m < length xs → (λ k. get_or (set xs m a) k d) ≡ put (λ k. get_or xs k d) m a
-table_set {A} xs m a d l =
-    fun_ext (λ k. put_cases (λ k. get_or xs k d) m a k (λ (z : A). get_or (set xs m a) k d ≡ z) (λ e. ap (λ n. get_or (set xs m a) n d) (sym e) ∙ get_or-set_same xs m a d l) (λ ne. get_or-set_other xs m k a d (λ e. ne (sym e))))
+-- A table with nothing in it.
+pub row_of_none : {A B : Type 0} (count : ℕ) (row_of : Option A → B) (k : ℕ) → row_at count row_of (replicate count None) k ≡ row_of None
+row_of_none count row_of k =
+    ap row_of (cond_both (ltb k count) (get_or (replicate count None) k None) None (λ row. row ≡ None) (λ _. get_or_replicate count k None) (λ _. refl))
+
+pub row_below : {A B : Type 0} (count : ℕ) (row_of : Option A → B) (rows : List (Option A)) (k : ℕ) → k < count → row_at count row_of rows k ≡ row_of (get_or rows k None)
+row_below count row_of rows k l = ap row_of (cond-true (ltb k count) (get_or rows k None) None (lt-ltb k count l))

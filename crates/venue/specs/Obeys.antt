@@ -1,11 +1,12 @@
 -- What every call of a venue promises: what it does is what the rules say.
-use Rattle.std.specs.Prelude.{◌≡◌, ℕ, List, ◌++◌, length, drop, Ok, Err, Result}
+use Rattle.std.specs.Prelude.{◌≡◌, ℕ, List, ◌++◌, length, drop, Ok, Err, Result, MatchResult}
 use Rattle.margin.specs.Sheets.{Charge}
 use Rattle.market.specs.declared.calls.Answer.{Answer}
 use Rattle.market.specs.declared.calls.Call.{Call}
 use Rattle.market.specs.declared.events.Event.{Event}
 use Rattle.market.specs.declared.refusals.Refusal.{Refusal}
 use Rattle.market.specs.Markets.{Market}
+use Rattle.market.specs.Grounds.{Ground, checked}
 use Rattle.market.specs.Calls.{outcome}
 
 -- Of a call on a venue with a list lent to it: its answer, the venue after it and the list after it.
@@ -19,3 +20,8 @@ pub record Obeys (charge : Charge) (reach : ℕ) (call : Call) (before after : M
 abbrev pub as_answer : {A : Type 0} → (A → Answer) → Result A Refusal → Result Answer Refusal
 as_answer kind (Ok value) = Ok (kind value)
 as_answer kind (Err refusal) = Err refusal
+
+-- The grounds were tested: the first one met is the refusal, and where none is met the call goes on with this value.
+abbrev pub Passes : {A : Type 0} → List Ground → A → Result A Refusal → Type 0
+Passes grounds value tested =
+    MatchResult tested (λ passed. (passed ≡ value) × (Ok tt ≡ checked grounds)) (λ refusal. Err refusal ≡ checked grounds)

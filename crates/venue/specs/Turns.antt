@@ -11,10 +11,15 @@ use Rattle.market.specs.Lists.{Wrote}
 use Rattle.market.specs.Markets.{Market, Told, quietly, with_rows, with_sheet, put_row, pending_orders}
 use Rattle.market.specs.Meeting.{Meeting, opposite, by_side, rest_cancelled, fill, stored}
 use Rattle.book.specs.Reads.{first_filled}
+use Rattle.venue.specs.declared.incoming.IncomingOrder.{IncomingOrder}
 
 -- How many orders are pending.
 abbrev pub pending_count : Market → ℕ
 pending_count M = length (pending_orders M.rows)
+
+-- A placed order with so many lots left.
+abbrev pub with_rest : IncomingOrder → ℕ → IncomingOrder
+with_rest incoming rest = record { number = incoming.number; order = incoming.order; rest = rest }
 
 -- An order that goes on to meet, with nothing told yet.
 abbrev pub meeting_at : Market → ℕ → Meeting
@@ -36,6 +41,12 @@ pub record Turned (turned : Meeting) (market : Market) (rest : ℕ) (meets : Boo
   pub rest_is : rest ≡ turned.rest
   pub meets_is : meets ≡ turned.meets
   pub wrote : Wrote old new from to turned.events
+
+-- The same of a whole meeting.
+pub record Met (met : Meeting) (market : Market) (rest : ℕ) (old new : List Event) (from to : ℕ) : Type 0 where
+  pub market_is : market ≡ met.market
+  pub rest_is : rest ≡ met.rest
+  pub wrote : Wrote old new from to met.events
 
 -- The same of what is only told.
 pub record Did (told : Told) (market : Market) (old new : List Event) (from to : ℕ) : Type 0 where

@@ -8,6 +8,8 @@ ghost use Rattle.book.specs.Picks.{picks};
 ghost use Rattle.venue.specs.Reads.{market_of};
 ghost use Rattle.venue.specs.Turns.{pending_count, Did};
 
+use crate::event_list::EventList;
+use crate::grounds::{check_list, check_open};
 use crate::state::Venue;
 use book::picked::Picked;
 use margin::keeper::Keeper;
@@ -16,22 +18,16 @@ use market::events::{Event, Reason};
 use market::refusals::Refusal;
 
 impl<K: Keeper> Venue<K> {
-    // Every cancel of pending orders: those that are picked leave the book, and are told from a place of the list on.
-    pub(crate) fn cancel_picked(
-        &mut self,
-        picked: Picked,
-        reason: Reason,
-        events: &mut [Event],
-        told: usize,
-    ) -> usize
-        requires { told + pending_count (market_of K.Keeper.sheet self.old) ≤ length events.old }
-        ensures did { Did (cancelling (picks picked) reason (market_of K.Keeper.sheet self.old)) (market_of K.Keeper.sheet self.new) events.old events.new told result }
-        ensures few { result + pending_count (market_of K.Keeper.sheet self.new) ≡ told + pending_count (market_of K.Keeper.sheet self.old) }
+    // Every cancel of pending orders: those that are picked leave the book, and are told.
+    pub(crate) fn cancel_picked(&mut self, picked: Picked, reason: Reason, list: &mut EventList<'_>)
+        requires { list.old.told + pending_count (market_of K.Keeper.sheet self.old) ≤ length list.old.places.now }
+        ensures same_list { list.new.places.ghost_name ≡ list.old.places.ghost_name }
+        ensures did { Did (cancelling (picks picked) reason (market_of K.Keeper.sheet self.old)) (market_of K.Keeper.sheet self.new) list.old.places.now list.new.places.now list.old.told list.new.told }
+        ensures few { list.new.told + pending_count (market_of K.Keeper.sheet self.new) ≡ list.old.told + pending_count (market_of K.Keeper.sheet self.old) }
     {
         let taken = self.book.cancel(&picked);
-        match taken.tell(reason, events, told) {
-            Some(after) => after,
-            None => told,
+        if let Some(told) = taken.tell(reason, list.places, list.told) {
+            list.told = told;
         }
     }
 
@@ -60,55 +56,30 @@ impl<K: Keeper> Venue<K> {
     pub fn close(&mut self, events: &mut [Event]) -> Result<usize, Refusal>
         ensures { Obeys K.Keeper.charge K.Keeper.REACH Close (market_of K.Keeper.sheet self.old) (market_of K.Keeper.sheet self.new) (as_answer CancelledCount result) events.old events.new }
     {
-        self.check_close(events.len())?;
+        self.check_open_with(events.len())?;
         Ok(self.close_checked(events))
     }
 
-    fn check_close(&self, places: usize) -> Result<(), Refusal>
+    // Every call that tells events belongs to the open phase.
+    pub(crate) fn check_open_with(&self, places: usize) -> Result<(), Refusal>
         ensures { result ≡ checked (close_grounds places (market_of K.Keeper.sheet self.now)) }
     {
-        if places < 257 {
-            return Err(Refusal::ListTooShort);
-        }
-        if !matches!(self.phase, Phase::Open) {
-            return Err(Refusal::WrongPhase);
-        }
-        Ok(())
+        check_list(places)?;
+        check_open(self.phase)
     }
 
     fn check_cancel_all(&self, member: u8, places: usize) -> Result<(), Refusal>
         ensures { result ≡ checked (cancel_all_grounds places (market_of K.Keeper.sheet self.now) member) }
     {
-        if places < 257 {
-            return Err(Refusal::ListTooShort);
-        }
-        if !matches!(self.phase, Phase::Open) {
-            return Err(Refusal::WrongPhase);
-        }
-        if member > 31 {
-            return Err(Refusal::NoSuchMember);
-        }
-        if !self.members.rows[member as usize].admitted {
-            return Err(Refusal::NoSuchMember);
-        }
+        self.check_open_with(places)?;
+        self.members.admitted(member)?;
         Ok(())
     }
 
     fn check_cancel(&self, member: u8, number: u16, places: usize) -> Result<(), Refusal>
         ensures { result ≡ checked (cancel_grounds places (market_of K.Keeper.sheet self.now) member number) }
     {
-        if places < 257 {
-            return Err(Refusal::ListTooShort);
-        }
-        if !matches!(self.phase, Phase::Open) {
-            return Err(Refusal::WrongPhase);
-        }
-        if member > 31 {
-            return Err(Refusal::NoSuchMember);
-        }
-        if !self.members.rows[member as usize].admitted {
-            return Err(Refusal::NoSuchMember);
-        }
+        self.check_cancel_all(member, places)?;
         if !self.book.has(&Picked::One { member, number }) {
             return Err(Refusal::NoSuchOrder);
         }
@@ -119,14 +90,24 @@ impl<K: Keeper> Venue<K> {
         requires { Ok tt ≡ checked (cancel_grounds (length events.old) (market_of K.Keeper.sheet self.old) member number) }
         ensures { Obeys K.Keeper.charge K.Keeper.REACH (Cancel member number) (market_of K.Keeper.sheet self.old) (market_of K.Keeper.sheet self.new) (Ok (CancelledCount result)) events.old events.new }
     {
-        self.cancel_picked(Picked::One { member, number }, Reason::Asked, events, 0)
+        let mut list = EventList {
+            places: events,
+            told: 0,
+        };
+        self.cancel_picked(Picked::One { member, number }, Reason::Asked, &mut list);
+        list.told
     }
 
     fn cancel_of(&mut self, member: u8, events: &mut [Event]) -> usize
         requires { Ok tt ≡ checked (cancel_all_grounds (length events.old) (market_of K.Keeper.sheet self.old) member) }
         ensures { Obeys K.Keeper.charge K.Keeper.REACH (CancelAll member) (market_of K.Keeper.sheet self.old) (market_of K.Keeper.sheet self.new) (Ok (CancelledCount result)) events.old events.new }
     {
-        self.cancel_picked(Picked::OfMember(member), Reason::Asked, events, 0)
+        let mut list = EventList {
+            places: events,
+            told: 0,
+        };
+        self.cancel_picked(Picked::OfMember(member), Reason::Asked, &mut list);
+        list.told
     }
 
     fn close_checked(&mut self, events: &mut [Event]) -> usize
@@ -134,6 +115,11 @@ impl<K: Keeper> Venue<K> {
         ensures { Obeys K.Keeper.charge K.Keeper.REACH Close (market_of K.Keeper.sheet self.old) (market_of K.Keeper.sheet self.new) (Ok (CancelledCount result)) events.old events.new }
     {
         self.phase = Phase::Closed;
-        self.cancel_picked(Picked::All, Reason::Closing, events, 0)
+        let mut list = EventList {
+            places: events,
+            told: 0,
+        };
+        self.cancel_picked(Picked::All, Reason::Closing, &mut list);
+        list.told
     }
 }

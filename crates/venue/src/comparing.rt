@@ -2,7 +2,6 @@ ghost use Rattle.std.specs.Prelude.{◌≡◌, true};
 ghost use Rattle.venue.specs.Alike.{Alike, shown};
 
 use market::orders::Listed;
-use terms::Side;
 
 /// Whether two listings are equally long and agree in side, rate and lots place by place.
 pub fn alike(one: &[Listed], other: &[Listed]) -> bool
@@ -22,14 +21,5 @@ pub fn alike(one: &[Listed], other: &[Listed]) -> bool
 fn shows_the_same(one: &Listed, other: &Listed) -> bool
     ensures { (result ≡ true → shown one.now ≡ shown other.now) × (shown one.now ≡ shown other.now → result ≡ true) }
 {
-    is_same_side(one.side, other.side) && one.rate == other.rate && one.lots == other.lots
-}
-
-fn is_same_side(one: Side, other: Side) -> bool
-    ensures { (result ≡ true → one ≡ other) × (one ≡ other → result ≡ true) }
-{
-    match one {
-        Side::Bid => matches!(other, Side::Bid),
-        Side::Offer => matches!(other, Side::Offer),
-    }
+    one.side == other.side && one.rate == other.rate && one.lots == other.lots
 }

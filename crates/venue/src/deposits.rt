@@ -1,15 +1,15 @@
-ghost use Rattle.std.specs.Prelude.{◌≡◌, ◌<◌, []};
+ghost use Rattle.std.specs.Prelude.{◌≡◌, ◌+◌, ◌-◌, ◌<◌, true, [], IsOk};
 ghost use Rattle.market.specs.declared.calls.Answer.TheVariants.{Done};
 ghost use Rattle.market.specs.declared.calls.Call.TheVariants.{Deposit, Withdraw};
 ghost use Rattle.market.specs.Calls.{deposit_changed};
-ghost use Rattle.market.specs.Grounds.{checked, deposit_grounds, withdraw_grounds};
-ghost use Rattle.venue.specs.Obeys.{Obeys, as_answer};
+ghost use Rattle.market.specs.Grounds.{deposit_grounds, withdraw_grounds};
+ghost use Rattle.venue.specs.Obeys.{Obeys, Passes, as_answer};
 ghost use Rattle.venue.specs.Reads.{market_of};
 
-use crate::judging::judge_row;
+use crate::grounds::check_not_closed;
+use crate::judging::judge_member;
 use crate::state::Venue;
 use margin::keeper::Keeper;
-use market::calls::Phase;
 use market::members::Mode;
 use market::refusals::Refusal;
 
@@ -21,8 +21,7 @@ impl<K: Keeper> Venue<K> {
     pub fn deposit(&mut self, member: u8, amount: u64) -> Result<(), Refusal>
         ensures { Obeys K.Keeper.charge K.Keeper.REACH (Deposit member amount) (market_of K.Keeper.sheet self.old) (market_of K.Keeper.sheet self.new) (as_answer (λ _. Done) result) [] [] }
     {
-        self.check_deposit(member, amount)?;
-        let deposit = self.members.rows[member as usize].deposit + amount;
+        let deposit = self.check_deposit(member, amount)?;
         self.change_deposit(member, deposit);
         Ok(())
     }
@@ -31,68 +30,56 @@ impl<K: Keeper> Venue<K> {
     pub fn withdraw(&mut self, member: u8, amount: u64) -> Result<(), Refusal>
         ensures { Obeys K.Keeper.charge K.Keeper.REACH (Withdraw member amount) (market_of K.Keeper.sheet self.old) (market_of K.Keeper.sheet self.new) (as_answer (λ _. Done) result) [] [] }
     {
-        self.check_withdraw(member, amount)?;
-        let deposit = self.members.rows[member as usize].deposit - amount;
+        let deposit = self.check_withdraw(member, amount)?;
         self.change_deposit(member, deposit);
         Ok(())
     }
 
-    fn check_deposit(&self, member: u8, amount: u64) -> Result<(), Refusal>
-        ensures { result ≡ checked (deposit_grounds (market_of K.Keeper.sheet self.now) member amount) }
+    // Answers what the deposit comes to.
+    fn check_deposit(&self, member: u8, amount: u64) -> Result<u64, Refusal>
+        ensures passes { Passes (deposit_grounds (market_of K.Keeper.sheet self.now) member amount) (((market_of K.Keeper.sheet self.now).members member).deposit + amount) result }
+        ensures admitted { IsOk result → (member < 32) × (((market_of K.Keeper.sheet self.now).members member).admitted ≡ true) }
     {
-        if matches!(self.phase, Phase::Closed) {
-            return Err(Refusal::WrongPhase);
-        }
-        if member > 31 {
-            return Err(Refusal::NoSuchMember);
-        }
-        let row = &self.members.rows[member as usize];
-        if !row.admitted {
-            return Err(Refusal::NoSuchMember);
-        }
+        check_not_closed(self.phase)?;
+        let row = self.members.admitted(member)?;
         if amount == 0 {
             return Err(Refusal::AmountOutOfRange);
         }
-        if row.deposit as u128 + amount as u128 > HIGHEST_DEPOSIT {
+        if u128::from(row.deposit) + u128::from(amount) > HIGHEST_DEPOSIT {
             return Err(Refusal::AmountOutOfRange);
         }
-        Ok(())
+        Ok(row.deposit + amount)
     }
 
-    fn check_withdraw(&self, member: u8, amount: u64) -> Result<(), Refusal>
-        ensures { result ≡ checked (withdraw_grounds K.Keeper.charge K.Keeper.REACH (market_of K.Keeper.sheet self.now) member amount) }
+    // Answers what is left of the deposit.
+    fn check_withdraw(&self, member: u8, amount: u64) -> Result<u64, Refusal>
+        ensures passes { Passes (withdraw_grounds K.Keeper.charge K.Keeper.REACH (market_of K.Keeper.sheet self.now) member amount) (((market_of K.Keeper.sheet self.now).members member).deposit - amount) result }
+        ensures admitted { IsOk result → (member < 32) × (((market_of K.Keeper.sheet self.now).members member).admitted ≡ true) }
     {
-        if matches!(self.phase, Phase::Closed) {
-            return Err(Refusal::WrongPhase);
-        }
-        if member > 31 {
-            return Err(Refusal::NoSuchMember);
-        }
-        let row = &self.members.rows[member as usize];
-        if !row.admitted {
-            return Err(Refusal::NoSuchMember);
-        }
+        check_not_closed(self.phase)?;
+        let row = self.members.admitted(member)?;
         if amount == 0 || amount > row.deposit {
             return Err(Refusal::AmountOutOfRange);
         }
-        if matches!(row.mode, Mode::Reduction) {
+        if row.mode == Mode::Reduction {
             return Err(Refusal::DepositNeeded);
         }
-        let left = (row.deposit - amount) as u128;
-        if 20 * self.keeper.need(member) as u128 >= 19 * left {
+        let left = row.deposit - amount;
+        if 20 * u128::from(self.keeper.need(member)) >= 19 * u128::from(left) {
             return Err(Refusal::DepositNeeded);
         }
-        Ok(())
+        Ok(left)
     }
 
     // Only this member's row is changed.
     fn change_deposit(&mut self, member: u8, deposit: u64)
-        requires { member < 32 }
+        requires { (member < 32) × (((market_of K.Keeper.sheet self.old).members member).admitted ≡ true) }
         ensures { market_of K.Keeper.sheet self.new ≡ deposit_changed K.Keeper.charge K.Keeper.REACH (market_of K.Keeper.sheet self.old) member deposit }
     {
         let need = self.keeper.need(member);
-        let row = &mut self.members.rows[member as usize];
-        row.deposit = deposit;
-        judge_row(row, need);
+        if let Some(row) = &mut self.members.rows[usize::from(member)] {
+            row.deposit = deposit;
+            judge_member(row, need);
+        }
     }
 }

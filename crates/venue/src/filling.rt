@@ -2,11 +2,11 @@ ghost use Rattle.std.specs.Prelude.{◌≡◌, ◌+◌, ◌<◌, ◌≤◌, min,
 ghost use Rattle.market.specs.Meeting.{opposite, lowers_need, is_hindered};
 ghost use Rattle.book.specs.Reads.{first_of};
 ghost use Rattle.venue.specs.Reads.{market_of};
-ghost use Rattle.venue.specs.Turns.{pending_count, meeting_at, after_first_fill, fill_first, Turned};
+ghost use Rattle.venue.specs.Turns.{pending_count, meeting_at, after_first_fill, fill_first, with_rest, Turned};
 
+use crate::event_list::EventList;
+use crate::incoming::{IncomingOrder, opposite_of};
 use crate::state::Venue;
-use crate::told::{tell, tell_rest};
-use crate::words::{opposite_of, trade_of};
 use margin::keeper::Keeper;
 use margin::trade::record_trade;
 use market::events::{Event, Reason};
@@ -14,98 +14,62 @@ use market::members::Mode;
 use market::orders::NewOrder;
 use terms::{Order, Side};
 
-/// A placed order after a turn: what is left of it, whether it goes on to meet, and the place after the events told so far.
-#[derive(Clone, Copy)]
-pub(crate) struct Turn {
-    pub(crate) rest: u16,
-    pub(crate) meets: bool,
-    pub(crate) told: usize,
-}
-
 impl<K: Keeper> Venue<K> {
     // Whether so many lots of an order would lower its member's need.
     pub(crate) fn lowers_need(&self, new: &NewOrder, lots: u16) -> bool
         ensures { result ≡ lowers_need K.Keeper.charge K.Keeper.REACH (market_of K.Keeper.sheet self.now) new.now lots }
     {
-        match self
+        let with_lots = self
             .keeper
-            .need_with(new.member, new.instrument, new.side, lots as u32)
-        {
-            Ok(need) => need < self.keeper.need(new.member),
-            Err(_) => false,
-        }
+            .need_with(new.member, new.instrument, new.side, u32::from(lots));
+        with_lots.is_ok_and(|need| need < self.keeper.need(new.member))
     }
 
     // A member in reduction mode may only trade what lowers its need.
     pub(crate) fn is_hindered(&self, new: &NewOrder, lots: u16) -> bool
-        requires { new.now.member < 32 }
         ensures { result ≡ is_hindered K.Keeper.charge K.Keeper.REACH (market_of K.Keeper.sheet self.now) new.now lots }
     {
-        match self.members.rows[new.member as usize].mode {
-            Mode::Reduction => !self.lowers_need(new, lots),
-            Mode::Normal => false,
-        }
+        self.members.mode(new.member) == Mode::Reduction && !self.lowers_need(new, lots)
     }
 
     // The lots leave the pending order, and the keeper records both sides. Over a fresh keeper there is nothing to refuse.
     fn trade(&mut self, new: &NewOrder, pending: &Order, lots: u16)
-        ensures market { market_of K.Keeper.sheet self.new ≡ after_first_fill K.Keeper.REACH (market_of K.Keeper.sheet self.old) new.now pending.now lots }
+        ensures { market_of K.Keeper.sheet self.new ≡ after_first_fill K.Keeper.REACH (market_of K.Keeper.sheet self.old) new.now pending.now lots }
     {
         self.book.fill(opposite_of(new.side), new.instrument, lots);
         let (buyer, seller) = match new.side {
             Side::Bid => (new.member, pending.member),
             Side::Offer => (pending.member, new.member),
         };
-        let _ = record_trade(&mut self.keeper, buyer, seller, new.instrument, lots as u32);
+        let lots = u32::from(lots);
+        let _ = record_trade(&mut self.keeper, buyer, seller, new.instrument, lots);
     }
 
     // A fill: the trade; the placing member judged; if it fell, its rest cancelled after its pending orders; the other judged.
+    // Answers whether the placed order goes on to meet.
     pub(crate) fn fill(
         &mut self,
-        number: u16,
-        new: &NewOrder,
-        rest: u16,
+        incoming: &mut IncomingOrder,
         pending: &Order,
-        events: &mut [Event],
-        told: usize,
-    ) -> Turn
-        requires in_range { (new.now.instrument < 16) × (0 < rest) }
-        requires room_for_events { told + pending_count (market_of K.Keeper.sheet self.old) + 1 ≤ length events.old }
-        requires pending_is_first { Some pending.now ≡ first_of ((market_of K.Keeper.sheet self.old).rows (opposite new.now.side) new.now.instrument) }
-        ensures turned { Turned (fill_first K.Keeper.charge K.Keeper.REACH number new.now (meeting_at (market_of K.Keeper.sheet self.old) rest) ((market_of K.Keeper.sheet self.old).rows (opposite new.now.side) new.now.instrument)) (market_of K.Keeper.sheet self.new) result.rest result.meets events.old events.new told result.told }
-        ensures few { result.told + pending_count (market_of K.Keeper.sheet self.new) + min 1 result.rest ≤ told + pending_count (market_of K.Keeper.sheet self.old) + 1 }
-        ensures going { result.meets ≡ true → 0 < result.rest }
+        list: &mut EventList<'_>,
+    ) -> bool
+        requires in_range { (incoming.old.order.instrument < 16) × (0 < incoming.old.rest) }
+        requires room_for_events { list.old.told + pending_count (market_of K.Keeper.sheet self.old) + 1 ≤ length list.old.places.now }
+        requires pending_is_first { Some pending.now ≡ first_of ((market_of K.Keeper.sheet self.old).rows (opposite incoming.old.order.side) incoming.old.order.instrument) }
+        ensures same_list { list.new.places.ghost_name ≡ list.old.places.ghost_name }
+        ensures same_order { incoming.new ≡ with_rest incoming.old incoming.new.rest }
+        ensures turned { Turned (fill_first K.Keeper.charge K.Keeper.REACH incoming.old.number incoming.old.order (meeting_at (market_of K.Keeper.sheet self.old) incoming.old.rest) ((market_of K.Keeper.sheet self.old).rows (opposite incoming.old.order.side) incoming.old.order.instrument)) (market_of K.Keeper.sheet self.new) incoming.new.rest result list.old.places.now list.new.places.now list.old.told list.new.told }
+        ensures few { list.new.told + pending_count (market_of K.Keeper.sheet self.new) + min 1 incoming.new.rest ≤ list.old.told + pending_count (market_of K.Keeper.sheet self.old) + 1 }
+        ensures going { result ≡ true → 0 < incoming.new.rest }
     {
-        let lots = rest.min(pending.lots);
-        self.trade(new, pending, lots);
-        let told = tell(
-            events,
-            told,
-            Event::Traded(trade_of(number, new, pending, lots)),
-        );
-        let left = rest - lots;
-        let placing = self.judge(new.member, events, told);
-        if placing.fallen {
-            let told = tell_rest(
-                events,
-                placing.told,
-                number,
-                new,
-                Reason::TurnedToReduction,
-                left,
-            );
-            let other = self.judge(pending.member, events, told);
-            return Turn {
-                rest: 0,
-                meets: false,
-                told: other.told,
-            };
+        let lots = incoming.rest.min(pending.lots);
+        self.trade(&incoming.order, pending, lots);
+        list.tell(Event::Traded(incoming.trade_with(pending, lots)));
+        incoming.rest -= lots;
+        if self.judge(incoming.order.member, list) {
+            list.cancel_rest(incoming, Reason::TurnedToReduction);
         }
-        let other = self.judge(pending.member, events, placing.told);
-        Turn {
-            rest: left,
-            meets: left > 0,
-            told: other.told,
-        }
+        self.judge(pending.member, list);
+        incoming.rest > 0
     }
 }

@@ -1,57 +1,57 @@
 ghost use Rattle.std.specs.Prelude.{◌≡◌, ◌+◌, ◌<◌, ◌≤◌, length};
 ghost use Rattle.market.specs.Markets.{with_member};
-ghost use Rattle.market.specs.Modes.{judged, judged_member, falls, need};
-ghost use Rattle.market.specs.Modes.{has_fallen, judge};
+ghost use Rattle.market.specs.Modes.{judged, judged_member, falls, need, has_fallen, judge};
+ghost use Rattle.market.specs.TableRows.{admitted_row, member_row};
 ghost use Rattle.venue.specs.Reads.{market_of};
 ghost use Rattle.venue.specs.Turns.{pending_count, Did};
 
-use crate::state::Venue;
+use crate::event_list::EventList;
+use crate::state::{MEMBERS, Venue};
 use book::picked::Picked;
 use margin::keeper::Keeper;
-use market::events::{Event, Reason};
+use market::events::Reason;
 use market::members::{Member, Mode};
 
-/// Whether a member went from normal to reduction mode, and the place after the events that were told of it.
-#[derive(Clone, Copy)]
-pub(crate) struct Judged {
-    pub(crate) fallen: bool,
-    pub(crate) told: usize,
-}
-
 /// Judges a member by its need and its deposit, and says whether it went from normal to reduction mode.
-pub(crate) fn judge_row(row: &mut Member, need: u64) -> bool
-    ensures row { row.new ≡ judged_member need row.old }
+pub(crate) fn judge_member(row: &mut Member, need: u64) -> bool
+    ensures row { admitted_row row.new ≡ judged_member need (admitted_row row.old) }
     ensures fallen { result ≡ falls row.old.mode (judged need row.old.deposit row.old.mode) }
 {
-    let was_normal = matches!(row.mode, Mode::Normal);
-    let (need, deposit) = (need as u128, row.deposit as u128);
+    let before = row.mode;
+    let (need, deposit) = (u128::from(need), u128::from(row.deposit));
     if 20 * need >= 19 * deposit {
         row.mode = Mode::Reduction;
     } else if 10 * need < 9 * deposit {
         row.mode = Mode::Normal;
     }
-    was_normal && matches!(row.mode, Mode::Reduction)
+    before == Mode::Normal && row.mode == Mode::Reduction
+}
+
+// Where nobody is admitted there is nothing to judge.
+fn judge_row(row: &mut Option<Member>, need: u64) -> bool
+    ensures row { member_row row.new ≡ judged_member need (member_row row.old) }
+    ensures fallen { result ≡ falls (member_row row.old).mode (judged need (member_row row.old).deposit (member_row row.old).mode) }
+{
+    match row {
+        Some(member) => judge_member(member, need),
+        None => false,
+    }
 }
 
 impl<K: Keeper> Venue<K> {
-    // Judges a member. One that falls loses its pending orders in every instrument.
-    pub(crate) fn judge(&mut self, member: u8, events: &mut [Event], told: usize) -> Judged
-        requires { told + pending_count (market_of K.Keeper.sheet self.old) ≤ length events.old }
-        ensures did { Did (judge K.Keeper.charge (market_of K.Keeper.sheet self.old) member) (market_of K.Keeper.sheet self.new) events.old events.new told result.told }
-        ensures fallen { result.fallen ≡ has_fallen K.Keeper.charge (market_of K.Keeper.sheet self.old) member }
-        ensures few { result.told + pending_count (market_of K.Keeper.sheet self.new) ≡ told + pending_count (market_of K.Keeper.sheet self.old) }
+    // Judges a member, and says whether it went from normal to reduction mode: then it loses its pending orders in every instrument.
+    pub(crate) fn judge(&mut self, member: u8, list: &mut EventList<'_>) -> bool
+        requires { list.old.told + pending_count (market_of K.Keeper.sheet self.old) ≤ length list.old.places.now }
+        ensures same_list { list.new.places.ghost_name ≡ list.old.places.ghost_name }
+        ensures did { Did (judge K.Keeper.charge (market_of K.Keeper.sheet self.old) member) (market_of K.Keeper.sheet self.new) list.old.places.now list.new.places.now list.old.told list.new.told }
+        ensures fallen { result ≡ has_fallen K.Keeper.charge (market_of K.Keeper.sheet self.old) member }
+        ensures few { list.new.told + pending_count (market_of K.Keeper.sheet self.new) ≡ list.old.told + pending_count (market_of K.Keeper.sheet self.old) }
     {
-        let fallen = self.judge_mode(member);
-        if !fallen {
-            return Judged { fallen, told };
+        let has_fallen = self.judge_mode(member);
+        if has_fallen {
+            self.cancel_picked(Picked::OfMember(member), Reason::TurnedToReduction, list);
         }
-        let told = self.cancel_picked(
-            Picked::OfMember(member),
-            Reason::TurnedToReduction,
-            events,
-            told,
-        );
-        Judged { fallen, told }
+        has_fallen
     }
 
     // Of a member that is not in the table there is nothing to judge.
@@ -59,7 +59,7 @@ impl<K: Keeper> Venue<K> {
         ensures market { market_of K.Keeper.sheet self.new ≡ with_member (market_of K.Keeper.sheet self.old) member (judged_member (need K.Keeper.charge (market_of K.Keeper.sheet self.old) member) ((market_of K.Keeper.sheet self.old).members member)) }
         ensures fallen { result ≡ has_fallen K.Keeper.charge (market_of K.Keeper.sheet self.old) member }
     {
-        if member > 31 {
+        if usize::from(member) >= MEMBERS {
             return false;
         }
         self.judge_in_table(member)
@@ -71,6 +71,6 @@ impl<K: Keeper> Venue<K> {
         ensures fallen { result ≡ has_fallen K.Keeper.charge (market_of K.Keeper.sheet self.old) member }
     {
         let need = self.keeper.need(member);
-        judge_row(&mut self.members.rows[member as usize], need)
+        judge_row(&mut self.members.rows[usize::from(member)], need)
     }
 }

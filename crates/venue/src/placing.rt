@@ -1,17 +1,21 @@
-ghost use Rattle.std.specs.Prelude.{◌≡◌, ◌+◌, ◌<◌, ◌≤◌, ◌++◌, length, Ok};
+ghost use Rattle.std.specs.Prelude.{◌≡◌, ◌<◌, length, Ok, Err, IfOk, OnOk, IfErr};
 ghost use Rattle.market.specs.declared.calls.Answer.TheVariants.{Placed as PlacedAs};
 ghost use Rattle.market.specs.declared.calls.Call.TheVariants.{Place};
-ghost use Rattle.market.specs.Grounds.{checked, entry_grounds, limit_grounds, mode_grounds, place_grounds, pending_over_five_years};
+ghost use Rattle.market.specs.Grounds.{checked, entry_grounds, term_grounds, limit_grounds, mode_grounds, place_grounds, pending_over_five_years};
 ghost use Rattle.market.specs.Limits.{opted, limit_for, highest_limit, accumulated_limit, is_over_five_years};
+ghost use Rattle.market.specs.TableRows.{admitted_row, defined_row, instrument_row};
 ghost use Rattle.venue.specs.Obeys.{Obeys, as_answer};
 ghost use Rattle.venue.specs.Reads.{market_of};
 
-use crate::state::Venue;
+use crate::event_list::EventList;
+use crate::incoming::IncomingOrder;
+use crate::state::{HIGHEST_LOTS, HIGHEST_RATE, Venue};
+use book::books::PLACES;
 use book::part::Part;
 use margin::keeper::Keeper;
-use market::calls::{Phase, Placed};
+use market::calls::Placed;
 use market::events::Event;
-use market::instruments::{Benchmark, TenorGroup};
+use market::instruments::{Benchmark, Instrument, TenorGroup};
 use market::members::{Benchmarks, Limits, Member, Mode};
 use market::orders::NewOrder;
 use market::refusals::Refusal;
@@ -21,12 +25,10 @@ use terms::Term;
 fn has_opted(benchmarks: Benchmarks, benchmark: Benchmark) -> bool
     ensures { result ≡ opted benchmarks benchmark }
 {
-    match (benchmarks, benchmark) {
-        (Benchmarks::Mibor, Benchmark::Mibor) => true,
-        (Benchmarks::Mibor, Benchmark::Mmfor) => false,
-        (Benchmarks::Mmfor, Benchmark::Mibor) => false,
-        (Benchmarks::Mmfor, Benchmark::Mmfor) => true,
-        (Benchmarks::Both, _) => true,
+    match benchmarks {
+        Benchmarks::Mibor => benchmark == Benchmark::Mibor,
+        Benchmarks::Mmfor => benchmark == Benchmark::Mmfor,
+        Benchmarks::Both => true,
     }
 }
 
@@ -51,24 +53,42 @@ fn highest_of(limits: &Limits) -> u16
 
 // The most lots that a member may have pending in all instruments.
 fn accumulated_of(member: &Member) -> u32
-    ensures { result ≡ accumulated_limit member.now }
+    ensures { result ≡ accumulated_limit (admitted_row member.now) }
 {
-    let highest = highest_of(&member.limits) as u32;
+    let highest = u32::from(highest_of(&member.limits));
     match member.benchmarks {
-        Benchmarks::Mibor => highest * 4,
-        Benchmarks::Mmfor => highest * 4,
+        Benchmarks::Mibor | Benchmarks::Mmfor => highest * 4,
         Benchmarks::Both => highest * 5,
     }
 }
 
-fn is_long(group: TenorGroup) -> bool
-    ensures { result ≡ is_over_five_years group }
+fn is_long(instrument: &Instrument) -> bool
+    ensures { result ≡ is_over_five_years instrument.now.group }
 {
-    match group {
-        TenorGroup::UpToOneYear => false,
-        TenorGroup::UpToFiveYears => false,
-        TenorGroup::OverFiveYears => true,
+    instrument.group == TenorGroup::OverFiveYears
+}
+
+fn is_long_row(row: &Option<Instrument>) -> bool
+    ensures { result ≡ is_over_five_years (instrument_row row.now).group }
+{
+    row.as_ref().is_some_and(is_long)
+}
+
+// The grounds of the member's benchmarks and single order limit, and of the rate.
+fn check_terms(new: &NewOrder, member: &Member, instrument: &Instrument) -> Result<(), Refusal>
+    ensures { result ≡ checked (term_grounds new.now (admitted_row member.now) (defined_row instrument.now)) }
+{
+    if !has_opted(member.benchmarks, instrument.benchmark) {
+        return Err(Refusal::BenchmarkNotOpted);
     }
+    let limit = single_limit(instrument.group, &member.limits);
+    if new.lots == 0 || new.lots > HIGHEST_LOTS || new.lots > limit {
+        return Err(Refusal::LotsOutOfRange);
+    }
+    if new.rate < -HIGHEST_RATE || new.rate > HIGHEST_RATE {
+        return Err(Refusal::RateOutOfRange);
+    }
+    Ok(())
 }
 
 impl<K: Keeper> Venue<K> {
@@ -78,9 +98,9 @@ impl<K: Keeper> Venue<K> {
         ensures few { result < 300000000 }
     {
         let mut sum: u32 = 0;
-        for i in 0..16u8 {
-            if is_long(self.instruments.rows[i as usize].group) {
-                sum += self.book.pending(Part::Instrument(i), member);
+        for (i, row) in self.instruments.rows.iter().enumerate() {
+            if is_long_row(row) {
+                sum += self.book.pending(Part::Instrument(i as u8), member);
             }
         }
         sum
@@ -88,74 +108,41 @@ impl<K: Keeper> Venue<K> {
 }
 
 impl<K: Keeper> Venue<K> {
-    fn check_entry(&self, new: &NewOrder, places: usize) -> Result<(), Refusal>
-        ensures { result ≡ checked (entry_grounds K.Keeper.charge K.Keeper.REACH places (market_of K.Keeper.sheet self.now) new.now) }
-    {
-        if places < 257 {
-            return Err(Refusal::ListTooShort);
-        }
-        if !matches!(self.phase, Phase::Open) {
-            return Err(Refusal::WrongPhase);
-        }
-        if new.member > 31 {
-            return Err(Refusal::NoSuchMember);
-        }
-        let member = &self.members.rows[new.member as usize];
-        if !member.admitted {
-            return Err(Refusal::NoSuchMember);
-        }
-        if new.instrument > 15 {
-            return Err(Refusal::NoSuchInstrument);
-        }
-        let instrument = &self.instruments.rows[new.instrument as usize];
-        if !instrument.defined {
-            return Err(Refusal::NoSuchInstrument);
-        }
-        if !has_opted(member.benchmarks, instrument.benchmark) {
-            return Err(Refusal::BenchmarkNotOpted);
-        }
-        if new.lots == 0
-            || new.lots > 1000
-            || new.lots > single_limit(instrument.group, &member.limits)
-        {
-            return Err(Refusal::LotsOutOfRange);
-        }
-        if new.rate < -500_000 || new.rate > 500_000 {
-            return Err(Refusal::RateOutOfRange);
-        }
-        Ok(())
-    }
-
-    fn check_limits(&self, new: &NewOrder) -> Result<(), Refusal>
-        requires { (new.now.member < 32) × (new.now.instrument < 16) }
+    fn check_limits(
+        &self,
+        new: &NewOrder,
+        member: &Member,
+        instrument: &Instrument,
+    ) -> Result<(), Refusal>
+        requires member { admitted_row member.now ≡ (market_of K.Keeper.sheet self.now).members new.now.member }
+        requires instrument { defined_row instrument.now ≡ (market_of K.Keeper.sheet self.now).instruments new.now.instrument }
         ensures { result ≡ checked (limit_grounds K.Keeper.charge K.Keeper.REACH (market_of K.Keeper.sheet self.now) new.now) }
     {
-        let member = &self.members.rows[new.member as usize];
-        let lots = new.lots as u32;
+        let lots = u32::from(new.lots);
         if self.book.pending(Part::Whole, new.member) + lots > accumulated_of(member) {
             return Err(Refusal::AccumulatedLimitPassed);
         }
-        if is_long(self.instruments.rows[new.instrument as usize].group) {
-            if self.pending_long(new.member) + lots > highest_of(&member.limits) as u32 {
-                return Err(Refusal::OverFiveYearsLimitPassed);
-            }
+        if is_long(instrument)
+            && self.pending_long(new.member) + lots > u32::from(highest_of(&member.limits))
+        {
+            return Err(Refusal::OverFiveYearsLimitPassed);
         }
-        let held = self.keeper.held(new.member, new.instrument, new.side) as u64;
+        let held = self.keeper.held(new.member, new.instrument, new.side);
         let pending = self
             .book
-            .pending(Part::Row(new.side, new.instrument), new.member) as u64;
-        if held + pending + lots as u64 > K::highest_total() as u64 {
+            .pending(Part::Row(new.side, new.instrument), new.member);
+        if u64::from(held) + u64::from(pending) + u64::from(lots) > u64::from(K::REACH) {
             return Err(Refusal::ReachPassed);
         }
         Ok(())
     }
 
-    fn check_mode(&self, new: &NewOrder) -> Result<(), Refusal>
-        requires { new.now.member < 32 }
+    fn check_mode(&self, new: &NewOrder, member: &Member) -> Result<(), Refusal>
+        requires { admitted_row member.now ≡ (market_of K.Keeper.sheet self.now).members new.now.member }
         ensures { result ≡ checked (mode_grounds K.Keeper.charge K.Keeper.REACH (market_of K.Keeper.sheet self.now) new.now) }
     {
-        let is_day = matches!(new.term, Term::Day);
-        if matches!(self.members.rows[new.member as usize].mode, Mode::Reduction) {
+        let is_day = new.term == Term::Day;
+        if member.mode == Mode::Reduction {
             if is_day {
                 return Err(Refusal::DayOrderInReduction);
             }
@@ -163,32 +150,34 @@ impl<K: Keeper> Venue<K> {
                 return Err(Refusal::NeedNotLowered);
             }
         }
-        if is_day && self.book.count() >= 256 {
+        if is_day && self.book.count() >= PLACES {
             return Err(Refusal::BookFull);
         }
-        if self.given == 65535 {
+        if self.given == u16::MAX {
             return Err(Refusal::NumbersUsedUp);
         }
         Ok(())
     }
 
+    // Who places what, and where: the rows of the member and of the instrument.
+    fn check_entry(&self, new: &NewOrder, places: usize) -> Result<(&Member, &Instrument), Refusal>
+        ensures found { IfOk result (λ rows. (admitted_row rows.0.now ≡ (market_of K.Keeper.sheet self.now).members new.now.member) × (defined_row rows.1.now ≡ (market_of K.Keeper.sheet self.now).instruments new.now.instrument)) }
+        ensures passed { OnOk result (Ok tt ≡ checked (entry_grounds K.Keeper.charge K.Keeper.REACH places (market_of K.Keeper.sheet self.now) new.now)) }
+        ensures refused { IfErr result (λ refusal. Err refusal ≡ checked (entry_grounds K.Keeper.charge K.Keeper.REACH places (market_of K.Keeper.sheet self.now) new.now)) }
+    {
+        self.check_open_with(places)?;
+        let member = self.members.admitted(new.member)?;
+        let instrument = self.instruments.defined(new.instrument)?;
+        check_terms(new, member, instrument)?;
+        Ok((member, instrument))
+    }
+
     fn check_place(&self, new: &NewOrder, places: usize) -> Result<(), Refusal>
         ensures { result ≡ checked (place_grounds K.Keeper.charge K.Keeper.REACH places (market_of K.Keeper.sheet self.now) new.now) }
     {
-        match self.check_entry(new, places) {
-            Ok(()) => self.check_limits_and_mode(new),
-            Err(refusal) => Err(refusal),
-        }
-    }
-
-    fn check_limits_and_mode(&self, new: &NewOrder) -> Result<(), Refusal>
-        requires { (new.now.member < 32) × (new.now.instrument < 16) }
-        ensures { result ≡ checked (limit_grounds K.Keeper.charge K.Keeper.REACH (market_of K.Keeper.sheet self.now) new.now ++ mode_grounds K.Keeper.charge K.Keeper.REACH (market_of K.Keeper.sheet self.now) new.now) }
-    {
-        match self.check_limits(new) {
-            Ok(()) => self.check_mode(new),
-            Err(refusal) => Err(refusal),
-        }
+        let (member, instrument) = self.check_entry(new, places)?;
+        self.check_limits(new, member, instrument)?;
+        self.check_mode(new, member)
     }
 }
 
@@ -205,13 +194,33 @@ impl<K: Keeper> Venue<K> {
         requires { Ok tt ≡ checked (place_grounds K.Keeper.charge K.Keeper.REACH (length events.old) (market_of K.Keeper.sheet self.old) new.now) }
         ensures { Obeys K.Keeper.charge K.Keeper.REACH (Place new.now) (market_of K.Keeper.sheet self.old) (market_of K.Keeper.sheet self.new) (Ok (PlacedAs result)) events.old events.new }
     {
-        let number = self.given + 1;
-        self.given = number;
-        let turn = self.meet(number, new, events);
-        let told = self.settle(number, new, turn, events);
+        let mut list = EventList {
+            places: events,
+            told: 0,
+        };
+        let number = self.take_in(new, &mut list);
         Placed {
             number,
-            events: told,
+            events: list.told,
         }
+    }
+
+    // Gives a placed order its number, lets it meet and settles its rest.
+    fn take_in(&mut self, new: &NewOrder, list: &mut EventList<'_>) -> u16
+        requires from_the_start { list.old.told ≡ 0 }
+        requires passed { Ok tt ≡ checked (place_grounds K.Keeper.charge K.Keeper.REACH (length list.old.places.now) (market_of K.Keeper.sheet self.old) new.now) }
+        ensures same_list { list.new.places.ghost_name ≡ list.old.places.ghost_name }
+        ensures obeys { Obeys K.Keeper.charge K.Keeper.REACH (Place new.now) (market_of K.Keeper.sheet self.old) (market_of K.Keeper.sheet self.new) (Ok (PlacedAs (record { number = result; events = list.new.told }))) list.old.places.now list.new.places.now }
+    {
+        let number = self.given + 1;
+        self.given = number;
+        let mut incoming = IncomingOrder {
+            number,
+            order: *new,
+            rest: new.lots,
+        };
+        self.meet(&mut incoming, list);
+        self.settle(&incoming, list);
+        number
     }
 }

@@ -26,8 +26,8 @@ fn make_all<K: Keeper>(mut venue: Venue<K>, log: &[Call], events: &mut [Event]) 
     ensures became { market_of K.Keeper.sheet result ≡ market_at_end K.Keeper.charge K.Keeper.REACH (market_of K.Keeper.sheet venue) (made_with (length events.old) log.now) }
     ensures told { events.new ≡ list_at_end K.Keeper.charge K.Keeper.REACH (market_of K.Keeper.sheet venue) (made_with (length events.old) log.now) events.old }
 {
-    for i in 0..log.len() {
-        let _ = venue.make(log[i], events);
+    for call in log {
+        let _ = venue.make(*call, events);
     }
     venue
 }

@@ -2,37 +2,22 @@ ghost use Rattle.std.specs.Prelude.{◌≡◌, ◌<◌, []};
 ghost use Rattle.margin.specs.Sheets.{after_set_factor};
 ghost use Rattle.market.specs.declared.calls.Answer.TheVariants.{Done};
 ghost use Rattle.market.specs.declared.calls.Call.TheVariants.{Admit, Define, Open};
+ghost use Rattle.market.specs.declared.members.Mode.TheVariants.{Reduction};
 ghost use Rattle.market.specs.Calls.{admitted, defined};
-ghost use Rattle.market.specs.Grounds.{checked, admit_grounds, define_grounds};
+ghost use Rattle.market.specs.Grounds.{admit_grounds, define_grounds};
 ghost use Rattle.market.specs.Markets.{begun, with_phase, with_member, with_instrument, with_sheet};
-ghost use Rattle.venue.specs.Obeys.{Obeys, as_answer};
+ghost use Rattle.market.specs.TableRows.{admitted_row, defined_row};
+ghost use Rattle.venue.specs.Obeys.{Obeys, as_answer, Passes};
 ghost use Rattle.venue.specs.Reads.{market_of};
 
-use crate::state::{Instruments, Members, Venue};
+use crate::grounds::check_set_up;
+use crate::state::{HIGHEST_LOTS, INSTRUMENTS, Instruments, MEMBERS, Members, Venue};
 use book::books::Book;
 use margin::keeper::Keeper;
 use market::calls::Phase;
 use market::instruments::{Benchmark, Instrument, TenorGroup};
 use market::members::{Benchmarks, Limits, Member, Mode};
 use market::refusals::Refusal;
-
-const NO_MEMBER: Member = Member {
-    admitted: false,
-    benchmarks: Benchmarks::Mibor,
-    limits: Limits {
-        up_to_one_year: 0,
-        up_to_five_years: 0,
-        over_five_years: 0,
-    },
-    deposit: 0,
-    mode: Mode::Reduction,
-};
-
-const NO_INSTRUMENT: Instrument = Instrument {
-    defined: false,
-    benchmark: Benchmark::Mibor,
-    group: TenorGroup::UpToOneYear,
-};
 
 impl<K: Keeper> Venue<K> {
     /// A venue in set-up with no member, instrument or order.
@@ -48,10 +33,10 @@ impl<K: Keeper> Venue<K> {
         Venue {
             phase,
             members: Members {
-                rows: [NO_MEMBER; 32],
+                rows: [None; MEMBERS],
             },
             instruments: Instruments {
-                rows: [NO_INSTRUMENT; 16],
+                rows: [None; INSTRUMENTS],
             },
             book: Book::empty(),
             given: 0,
@@ -63,7 +48,7 @@ impl<K: Keeper> Venue<K> {
     pub fn admit(&mut self, member: u8, benchmarks: u8, limits: Limits) -> Result<(), Refusal>
         ensures { Obeys K.Keeper.charge K.Keeper.REACH (Admit member benchmarks limits) (market_of K.Keeper.sheet self.old) (market_of K.Keeper.sheet self.new) (as_answer (λ _. Done) result) [] [] }
     {
-        self.check_admit(member, benchmarks, &limits)?;
+        let benchmarks = self.check_admit(member, benchmarks, &limits)?;
         self.enter_member(member, benchmarks, limits);
         Ok(())
     }
@@ -78,8 +63,8 @@ impl<K: Keeper> Venue<K> {
     ) -> Result<(), Refusal>
         ensures { Obeys K.Keeper.charge K.Keeper.REACH (Define instrument benchmark group factor) (market_of K.Keeper.sheet self.old) (market_of K.Keeper.sheet self.new) (as_answer (λ _. Done) result) [] [] }
     {
-        self.check_define(instrument, benchmark, group, factor)?;
-        self.enter_instrument(instrument, benchmark, group);
+        let row = self.check_define(instrument, benchmark, group, factor)?;
+        self.enter_instrument(instrument, row);
         self.set_factor(instrument, factor);
         Ok(())
     }
@@ -88,48 +73,46 @@ impl<K: Keeper> Venue<K> {
     pub fn open(&mut self) -> Result<(), Refusal>
         ensures { Obeys K.Keeper.charge K.Keeper.REACH Open (market_of K.Keeper.sheet self.old) (market_of K.Keeper.sheet self.new) (as_answer (λ _. Done) result) [] [] }
     {
-        if !matches!(self.phase, Phase::SetUp) {
-            return Err(Refusal::WrongPhase);
-        }
+        check_set_up(self.phase)?;
         self.phase = Phase::Open;
         Ok(())
     }
 
-    fn check_admit(&self, member: u8, benchmarks: u8, limits: &Limits) -> Result<(), Refusal>
-        ensures { result ≡ checked (admit_grounds (market_of K.Keeper.sheet self.now) member benchmarks limits.now) }
+    fn check_admit(
+        &self,
+        member: u8,
+        benchmarks: u8,
+        limits: &Limits,
+    ) -> Result<Benchmarks, Refusal>
+        ensures { Passes (admit_grounds (market_of K.Keeper.sheet self.now) member benchmarks limits.now) (admitted benchmarks limits.now).benchmarks result }
     {
-        if !matches!(self.phase, Phase::SetUp) {
-            return Err(Refusal::WrongPhase);
-        }
+        check_set_up(self.phase)?;
         if member > 31 {
             return Err(Refusal::NoSuchMember);
         }
-        if self.members.rows[member as usize].admitted {
+        if self.members.admitted(member).is_ok() {
             return Err(Refusal::AlreadyThere);
         }
-        if Benchmarks::numbered(benchmarks).is_none() {
-            return Err(Refusal::ValueOutOfRange);
-        }
-        if limits.up_to_one_year > 1000
-            || limits.up_to_five_years > 1000
-            || limits.over_five_years > 1000
+        let benchmarks = Benchmarks::try_from(benchmarks)?;
+        if limits.up_to_one_year > HIGHEST_LOTS
+            || limits.up_to_five_years > HIGHEST_LOTS
+            || limits.over_five_years > HIGHEST_LOTS
         {
             return Err(Refusal::ValueOutOfRange);
         }
-        Ok(())
+        Ok(benchmarks)
     }
 
-    fn enter_member(&mut self, member: u8, benchmarks: u8, limits: Limits)
+    fn enter_member(&mut self, member: u8, benchmarks: Benchmarks, limits: Limits)
         requires { member < 32 }
-        ensures { market_of K.Keeper.sheet self.new ≡ with_member (market_of K.Keeper.sheet self.old) member (admitted benchmarks limits) }
+        ensures { market_of K.Keeper.sheet self.new ≡ with_member (market_of K.Keeper.sheet self.old) member (admitted_row (record { benchmarks = benchmarks; limits = limits; deposit = 0; mode = Reduction })) }
     {
-        self.members.rows[member as usize] = Member {
-            admitted: true,
-            benchmarks: Benchmarks::numbered(benchmarks).unwrap_or(Benchmarks::Mibor),
+        self.members.rows[usize::from(member)] = Some(Member {
+            benchmarks,
             limits,
             deposit: 0,
             mode: Mode::Reduction,
-        };
+        });
     }
 
     fn check_define(
@@ -138,35 +121,29 @@ impl<K: Keeper> Venue<K> {
         benchmark: u8,
         group: u8,
         factor: u32,
-    ) -> Result<(), Refusal>
-        ensures { result ≡ checked (define_grounds (market_of K.Keeper.sheet self.now) instrument benchmark group factor) }
+    ) -> Result<Instrument, Refusal>
+        ensures { Passes (define_grounds (market_of K.Keeper.sheet self.now) instrument benchmark group factor) (record { benchmark = (defined benchmark group).benchmark; group = (defined benchmark group).group }) result }
     {
-        if !matches!(self.phase, Phase::SetUp) {
-            return Err(Refusal::WrongPhase);
-        }
+        check_set_up(self.phase)?;
         if instrument > 15 {
             return Err(Refusal::NoSuchInstrument);
         }
-        if self.instruments.rows[instrument as usize].defined {
+        if self.instruments.defined(instrument).is_ok() {
             return Err(Refusal::AlreadyThere);
         }
-        if Benchmark::numbered(benchmark).is_none() {
-            return Err(Refusal::ValueOutOfRange);
-        }
-        if TenorGroup::numbered(group).is_none() {
-            return Err(Refusal::ValueOutOfRange);
-        }
+        let benchmark = Benchmark::try_from(benchmark)?;
+        let group = TenorGroup::try_from(group)?;
         if factor == 0 || factor > 100_000 {
             return Err(Refusal::ValueOutOfRange);
         }
-        Ok(())
+        Ok(Instrument { benchmark, group })
     }
 
-    fn enter_instrument(&mut self, instrument: u8, benchmark: u8, group: u8)
+    fn enter_instrument(&mut self, instrument: u8, row: Instrument)
         requires { instrument < 16 }
-        ensures { market_of K.Keeper.sheet self.new ≡ with_instrument (market_of K.Keeper.sheet self.old) instrument (defined benchmark group) }
+        ensures { market_of K.Keeper.sheet self.new ≡ with_instrument (market_of K.Keeper.sheet self.old) instrument (defined_row row) }
     {
-        self.instruments.rows[instrument as usize] = instrument_of(benchmark, group);
+        self.instruments.rows[usize::from(instrument)] = Some(row);
     }
 
     // Over a fresh keeper the grounds leave nothing that it could refuse.
@@ -174,15 +151,5 @@ impl<K: Keeper> Venue<K> {
         ensures { market_of K.Keeper.sheet self.new ≡ with_sheet (market_of K.Keeper.sheet self.old) (after_set_factor (market_of K.Keeper.sheet self.old).sheet instrument factor) }
     {
         let _ = self.keeper.set_factor(instrument, factor);
-    }
-}
-
-fn instrument_of(benchmark: u8, group: u8) -> Instrument
-    ensures { result ≡ defined benchmark group }
-{
-    Instrument {
-        defined: true,
-        benchmark: Benchmark::numbered(benchmark).unwrap_or(Benchmark::Mibor),
-        group: TenorGroup::numbered(group).unwrap_or(TenorGroup::UpToOneYear),
     }
 }

@@ -3,16 +3,31 @@ use market::calls::Phase;
 use market::instruments::Instrument;
 use market::members::Member;
 
-/// The table of members, a row for each.
+/// Members are 0 to 31.
+pub(crate) const MEMBERS: usize = 32;
+
+/// Instruments are 0 to 15.
+pub(crate) const INSTRUMENTS: usize = 16;
+
+/// How many places a list for events or for a listing has to have.
+pub const LIST_PLACES: usize = 257;
+
+/// The most lots of one order, whoever places it.
+pub(crate) const HIGHEST_LOTS: u16 = 1_000;
+
+/// Rates are from its negative to this, in ten-thousandths of a per cent.
+pub(crate) const HIGHEST_RATE: i32 = 500_000;
+
+/// The table of members: a row for each that is admitted.
 #[derive(Drop)]
 pub struct Members {
-    pub(crate) rows: [Member; 32],
+    pub(crate) rows: [Option<Member>; MEMBERS],
 }
 
-/// The table of instruments, a row for each.
+/// The table of instruments: a row for each that is defined.
 #[derive(Drop)]
 pub struct Instruments {
-    pub(crate) rows: [Instrument; 16],
+    pub(crate) rows: [Option<Instrument>; INSTRUMENTS],
 }
 
 /// A venue over a margin keeper.

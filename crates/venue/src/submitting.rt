@@ -13,7 +13,7 @@ use wire::messages::read;
 use wire::request::{MessageRefusal, Request};
 
 /// Why a message was refused, by the layer that refused it.
-#[derive(Clone, Copy)]
+#[derive(Clone, Copy, PartialEq, Eq, Debug)]
 pub enum Fault {
     /// The message was not read.
     Reader(MessageRefusal),

@@ -1,0 +1,48 @@
+ghost use Rattle.std.specs.Prelude.{◌≡◌, ◌+◌, ◌<◌, ◌≤◌, min, [], ◌∷◌, length};
+ghost use Rattle.market.specs.Lists.{Wrote};
+ghost use Rattle.market.specs.Meeting.{rest_cancelled};
+ghost use Rattle.venue.specs.Turns.{with_rest};
+
+use crate::incoming::IncomingOrder;
+use market::events::{Cancellation, Event, Reason};
+
+/// The caller's list of events. Those that the call has told so far stand in its first places.
+#[derive(Drop)]
+pub(crate) struct EventList<'a> {
+    pub(crate) places: &'a mut [Event],
+    pub(crate) told: usize,
+}
+
+impl EventList<'_> {
+    pub(crate) fn tell(&mut self, event: Event)
+        requires { self.old.told < length self.old.places.now }
+        ensures same_list { self.new.places.ghost_name ≡ self.old.places.ghost_name }
+        ensures wrote { Wrote self.old.places.now self.new.places.now self.old.told self.new.told (event ∷ []) }
+    {
+        self.places[self.told] = event;
+        self.told += 1;
+    }
+
+    /// Tells the cancel of a placed order's rest. A rest of 0 lots is no rest.
+    pub(crate) fn tell_rest(&mut self, incoming: &IncomingOrder, reason: Reason)
+        requires { self.old.told + min 1 incoming.now.rest ≤ length self.old.places.now }
+        ensures same_list { self.new.places.ghost_name ≡ self.old.places.ghost_name }
+        ensures wrote { Wrote self.old.places.now self.new.places.now self.old.told self.new.told (rest_cancelled incoming.now.number incoming.now.order reason incoming.now.rest) }
+    {
+        if incoming.rest > 0 {
+            let cancellation = Cancellation::of(&incoming.pending(), reason);
+            self.tell(Event::Cancelled(cancellation));
+        }
+    }
+
+    /// Cancels a placed order's rest, and tells it.
+    pub(crate) fn cancel_rest(&mut self, incoming: &mut IncomingOrder, reason: Reason)
+        requires { self.old.told + min 1 incoming.old.rest ≤ length self.old.places.now }
+        ensures same_list { self.new.places.ghost_name ≡ self.old.places.ghost_name }
+        ensures wrote { Wrote self.old.places.now self.new.places.now self.old.told self.new.told (rest_cancelled incoming.old.number incoming.old.order reason incoming.old.rest) }
+        ensures incoming { incoming.new ≡ with_rest incoming.old 0 }
+    {
+        self.tell_rest(incoming, reason);
+        incoming.rest = 0;
+    }
+}

@@ -1,0 +1,49 @@
+ghost use Rattle.std.specs.Prelude.{◌≡◌, [], ◌∷◌, not, ◌||◌};
+ghost use Rattle.market.specs.declared.refusals.Refusal.TheVariants.{ListTooShort as TooShort, WrongPhase as Wrong};
+ghost use Rattle.market.specs.Grounds.{checked, ◌when◌, is_short, is_set_up, is_open};
+
+use crate::state::LIST_PLACES;
+use market::calls::Phase;
+use market::refusals::Refusal;
+
+// Grounds that several calls have in common.
+
+/// A list that is lent for events or for a listing.
+pub(crate) fn check_list(places: usize) -> Result<(), Refusal>
+    ensures { result ≡ checked ((TooShort when is_short places) ∷ []) }
+{
+    if places < LIST_PLACES {
+        return Err(Refusal::ListTooShort);
+    }
+    Ok(())
+}
+
+/// A call that belongs to set-up.
+pub(crate) fn check_set_up(phase: Phase) -> Result<(), Refusal>
+    ensures { result ≡ checked ((Wrong when not (is_set_up phase)) ∷ []) }
+{
+    if phase != Phase::SetUp {
+        return Err(Refusal::WrongPhase);
+    }
+    Ok(())
+}
+
+/// A call that belongs to the open phase.
+pub(crate) fn check_open(phase: Phase) -> Result<(), Refusal>
+    ensures { result ≡ checked ((Wrong when not (is_open phase)) ∷ []) }
+{
+    if phase != Phase::Open {
+        return Err(Refusal::WrongPhase);
+    }
+    Ok(())
+}
+
+/// A call that belongs to set-up and to the open phase.
+pub(crate) fn check_not_closed(phase: Phase) -> Result<(), Refusal>
+    ensures { result ≡ checked ((Wrong when not (is_set_up phase || is_open phase)) ∷ []) }
+{
+    if phase == Phase::Closed {
+        return Err(Refusal::WrongPhase);
+    }
+    Ok(())
+}

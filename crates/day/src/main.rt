@@ -15,7 +15,7 @@ use market::calls::Answer;
 use market::events::{BLANK_EVENT, Event};
 use market::refusals::Refusal;
 use std::io;
-use venue::state::Venue;
+use venue::state::{LIST_PLACES, Venue};
 
 const INTRODUCTION: &str = "A day at the venue
 
@@ -25,13 +25,13 @@ a member needs factor x (2 x the larger of its lots bought and sold - the smalle
 At 95 hundredths of its deposit a member turns to risk reduction, below 90 it is normal again.
 After each step stand the members' needs, each with its deposit; members in reduction mode are marked.";
 
-fn tell(rt: &HostRuntime, line: &String) -> io::Result<()> {
+fn tell(rt: &HostRuntime, line: &str) -> io::Result<()> {
     println!(rt; "         {line}")
 }
 
 fn tell_events(rt: &HostRuntime, events: &[Event], count: usize) -> io::Result<()> {
     for event in events.iter().take(count) {
-        tell(rt, &event_line(rt.alloc(), event)?)?;
+        tell(rt, event_line(rt.alloc(), event)?.as_str())?;
     }
     Ok(())
 }
@@ -43,17 +43,17 @@ fn tell_result(
 ) -> io::Result<()> {
     match answered {
         Ok(answer) => {
-            tell(rt, &answer_line(rt.alloc(), answer)?)?;
+            tell(rt, answer_line(rt.alloc(), answer)?.as_str())?;
             tell_events(rt, events, answer.events_told())
         }
-        Err(refusal) => tell(rt, &refusal_line(rt.alloc(), refusal)?),
+        Err(refusal) => tell(rt, refusal_line(rt.alloc(), refusal)?.as_str()),
     }
 }
 
 // The members that are admitted, on one line.
 fn tell_standings<K: Keeper>(rt: &HostRuntime, venue: &Venue<K>) -> io::Result<()> {
     let mut line = String::new(rt.alloc());
-    for member in 0..MEMBERS.len() as u8 {
+    for (member, _) in (0u8..).zip(MEMBERS.iter()) {
         if let Ok(standing) = venue.standing(member) {
             let words = standing_words(rt.alloc(), member, &standing)?;
             write!(line, "| {words} ")?;
@@ -62,7 +62,7 @@ fn tell_standings<K: Keeper>(rt: &HostRuntime, venue: &Venue<K>) -> io::Result<(
     if line.is_empty() {
         return Ok(());
     }
-    tell(rt, &line)
+    tell(rt, line.as_str())
 }
 
 fn tell_step(
@@ -107,7 +107,7 @@ fn compare(rt: &HostRuntime, events: &mut [Event]) -> io::Result<()> {
 
 fn main(rt: HostRuntime) -> io::Result<()> {
     let mut venue = Venue::begin(Reckoner::fresh());
-    let mut events = [BLANK_EVENT; 257];
+    let mut events = [BLANK_EVENT; LIST_PLACES];
     println!(rt; "{INTRODUCTION}")?;
     tell_day(&rt, &mut venue, &mut events)?;
     compare(&rt, &mut events)

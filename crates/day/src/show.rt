@@ -10,17 +10,17 @@ use std::alloc::{AllocError, Global};
 use terms::{Side, Term};
 
 fn member_name(member: u8) -> &'static str {
-    match MEMBERS.get(member as usize) {
-        Some(name) => *name,
-        None => "nobody",
-    }
+    MEMBERS
+        .get(usize::from(member))
+        .copied()
+        .unwrap_or("nobody")
 }
 
 fn instrument_name(instrument: u8) -> &'static str {
-    match INSTRUMENTS.get(instrument as usize) {
-        Some(name) => *name,
-        None => "not known",
-    }
+    INSTRUMENTS
+        .get(usize::from(instrument))
+        .copied()
+        .unwrap_or("not known")
 }
 
 fn side_name(side: Side) -> &'static str {
@@ -168,7 +168,7 @@ fn cancel_line(heap: Global, cancel: &Cancellation) -> Result<String, AllocError
         lots_name(cancel.lots),
         cancel.number,
         member_name(cancel.member),
-        cancel.reason.words(),
+        cancel.reason,
         cancel.reason.number()
     )
 }
@@ -218,5 +218,5 @@ pub(crate) fn answer_line(heap: Global, answer: &Answer) -> Result<String, Alloc
 }
 
 pub(crate) fn refusal_line(heap: Global, refusal: &Refusal) -> Result<String, AllocError> {
-    format!(in heap; "REFUSED {}: {}", refusal.number(), refusal.words())
+    format!(in heap; "REFUSED {}: {refusal}", refusal.number())
 }

@@ -5,45 +5,46 @@
 mod output;
 mod set_up;
 
-use crate::output::{Output, print_answer, print_events, print_fault};
+use crate::output::{print_answer, print_events};
 use crate::set_up::set_up;
 use keepers::reckoner::Reckoner;
 use market::events::{BLANK_EVENT, Event};
 use std::alloc::Global;
 use std::io;
-use std::io::Read;
-use venue::state::Venue;
+use std::io::{BufWriter, Read, Write};
+use venue::state::{LIST_PLACES, Venue};
 
 /// The bytes of 8,000 messages of 8 bytes. Later messages are not read.
 const MOST_BYTES: u64 = 64_000;
 
-fn submit(
+/// So many bytes are written at a time.
+const BLOCK: usize = 65_536;
+
+fn submit<W: Write>(
     venue: &mut Venue<Reckoner>,
     message: &[u8],
     events: &mut [Event],
-    output: &mut Output,
+    output: &mut W,
 ) -> io::Result<()> {
     match venue.submit(message, events) {
         Ok(answer) => {
             print_events(output, events, answer.events_told())?;
             print_answer(output, &answer)
         }
-        Err(fault) => print_fault(output, &fault),
+        Err(fault) => writeln!(output, "R {}", u8::from(fault)),
     }
 }
 
-fn submit_all(
-    rt: &HostRuntime,
+fn submit_all<W: Write>(
     venue: &mut Venue<Reckoner>,
     messages: &[u8],
     events: &mut [Event],
+    output: &mut W,
 ) -> io::Result<()> {
-    let mut output = Output::new(rt);
     for message in messages.chunks(8) {
-        submit(venue, message, events, &mut output)?;
-        output.write_full_block(rt)?;
+        submit(venue, message, events, output)?;
     }
-    output.write_rest(rt)
+    output.flush()
 }
 
 fn read_messages(rt: &HostRuntime) -> io::Result<Vec<u8>> {
@@ -58,6 +59,7 @@ fn main(rt: HostRuntime) -> io::Result<()> {
         return println!(rt; "the set-up was refused with {}", refusal.number());
     }
     let messages = read_messages(&rt)?;
-    let mut events = [BLANK_EVENT; 257];
-    submit_all(&rt, &mut venue, messages.as_slice(), &mut events)
+    let mut events = [BLANK_EVENT; LIST_PLACES];
+    let mut output = BufWriter::with_capacity(rt.alloc(), BLOCK, io::writer(&rt))?;
+    submit_all(&mut venue, messages.as_slice(), &mut events, &mut output)
 }

@@ -6,14 +6,20 @@ use Rattle.market.specs.declared.calls.Call.{Call}
 use Rattle.market.specs.declared.calls.Call.TheVariants.{Place, Cancel, CancelAll}
 use Rattle.market.specs.declared.events.Event.{Event}
 use Rattle.market.specs.declared.refusals.Refusal.{Refusal}
+use Rattle.market.specs.Numbers.{refusal_number}
 use Rattle.market.specs.Markets.{Market}
 use Rattle.market.specs.Calls.{outcome}
 use Rattle.wire.specs.declared.request.MessageRefusal.{MessageRefusal}
 use Rattle.wire.specs.declared.request.Request.{Request}
 use Rattle.wire.specs.declared.request.Request.TheVariants.{Place as AsksPlace, Cancel as AsksCancel, CancelAll as AsksCancelAll}
-use Rattle.wire.specs.Messages.{reading}
+use Rattle.wire.specs.Messages.{reading, refusal_number as reader_number}
 use Rattle.venue.specs.declared.submitting.Fault.{Fault}
 use Rattle.venue.specs.declared.submitting.Fault.TheVariants.{Reader, Venue as ByVenue}
+
+-- The number of the refusal, whichever layer refused.
+abbrev pub fault_number : Fault → ℕ
+fault_number (Reader refusal) = reader_number refusal
+fault_number (ByVenue refusal) = refusal_number refusal
 
 -- The call that a message asks for.
 abbrev pub call_of : Request → Call

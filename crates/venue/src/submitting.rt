@@ -1,7 +1,7 @@
 ghost use Rattle.std.specs.Prelude.{◌≡◌};
 ghost use Rattle.venue.specs.declared.submitting.Fault.TheVariants.{Reader, Venue as ByVenue};
 ghost use Rattle.venue.specs.Reads.{market_of};
-ghost use Rattle.venue.specs.Submits.{Submits, call_of};
+ghost use Rattle.venue.specs.Submits.{Submits, call_of, fault_number};
 
 use crate::state::Venue;
 use margin::keeper::Keeper;
@@ -37,6 +37,19 @@ impl From<Refusal> for Fault {
     }
 }
 
+// The reader's refusals are 1 and 2, the venue's 3 to 21.
+impl From<Fault> for u8 {
+    ghost from_gives = { λ fault n. n ≡ fault_number fault };
+
+    fn from(fault: Fault) -> u8 {
+        match fault {
+            Fault::Reader(refusal) => refusal.number(),
+            Fault::Venue(refusal) => refusal.number(),
+        }
+    }
+}
+
+// No conversion by From: the call is of crate market and the request of crate wire, and neither uses the other.
 fn call_for(request: Request) -> Call
     ensures { result ≡ call_of request }
 {

@@ -5,21 +5,21 @@ use Rattle.terms.specs.declared.Side.{Side}
 use Rattle.terms.specs.declared.Side.TheVariants.{Bid, Offer}
 use Rattle.terms.specs.declared.Term.{Term}
 use Rattle.terms.specs.declared.Term.TheVariants.{Day, Immediate}
-use Rattle.wire.specs.declared.layout.Fields.{Fields}
 use Rattle.wire.specs.declared.request.Request.{Request}
 use Rattle.wire.specs.declared.request.Request.TheVariants.{Place, Cancel, CancelAll}
 use Rattle.wire.specs.declared.request.MessageRefusal.{MessageRefusal}
 use Rattle.wire.specs.declared.request.MessageRefusal.TheVariants.{NotLegal}
 use Rattle.wire.specs.Fields.{Fit, split, join}
-use Rattle.wire.specs.Messages.{layout, eight_bytes, values, fields_in, fields_of, side_bit, side_of, term_bit, term_of, rate_bits, rate_of, rate_fits, legal, is_place, is_cancel, is_cancel_all, place_of, request_of, reading, message_of}
+use Rattle.wire.specs.Layout.{layout, FieldValues, values}
+use Rattle.wire.specs.Messages.{eight_bytes, fields_in, fields_of, side_bit, side_of, term_bit, term_of, rate_bits, rate_of, rate_fits, legal, is_place, is_cancel, is_cancel_all, place_of, request_of, reading, message_of}
 use Rattle.wire.specs.Trips.{RoundTrips, WorkedMessages}
 use Rattle.wire.proofs.Bits.{split_fits, join_split_whole, join_below, split_join, fit_length}
 
-abbrev from_values : List ℕ → Fields
+abbrev from_values : List ℕ → FieldValues
 from_values vs =
     record { code = get_or vs 0 0; member = get_or vs 1 0; instrument = get_or vs 2 0; side = get_or vs 3 0; term = get_or vs 4 0; lots = get_or vs 5 0; rate = get_or vs 6 0; spare = get_or vs 7 0 }
 
-fields_eq : (f g : Fields) → values f ≡ values g → f ≡ g
+fields_eq : (f g : FieldValues) → values f ≡ values g → f ≡ g
 fields_eq f g e = ap from_values e
 
 -- ---- single values
@@ -124,12 +124,12 @@ call_back c ok =
 
 -- ---- a legal message is written as it was read
 
--- Fields that are read as a call are that call's, and the call is legal.
-record ReadAs (f : Fields) (c : Request) : Type 0 where
+-- FieldValues that are read as a call are that call's, and the call is legal.
+record ReadAs (f : FieldValues) (c : Request) : Type 0 where
   fields_are : fields_of c ≡ f
   is_legal : legal c ≡ true
 
-place_read : (f : Fields) → Fit layout (values f) → f.code ≡ 1 → f.spare ≡ 0 → ReadAs f (place_of f)
+place_read : (f : FieldValues) → Fit layout (values f) → f.code ≡ 1 → f.spare ≡ 0 → ReadAs f (place_of f)
 place_read f fit code spare =
     let side = side_back f.side fit.1.1.1.0 in
     let term = term_back f.term fit.1.1.1.1.0 in
@@ -142,14 +142,14 @@ place_read f fit code spare =
           (and_from (ltb f.lots 65536) _ (lt-ltb f.lots 65536 fit.1.1.1.1.1.0) (rate_of_fits f.rate fit.1.1.1.1.1.1.0)));
     }
 
-cancel_read : (f : Fields) → Fit layout (values f) → f.code ≡ 2 → f.instrument ≡ 0 → f.side ≡ 0 → f.term ≡ 0 → f.rate ≡ 0 → f.spare ≡ 0 → ReadAs f (Cancel f.member f.lots)
+cancel_read : (f : FieldValues) → Fit layout (values f) → f.code ≡ 2 → f.instrument ≡ 0 → f.side ≡ 0 → f.term ≡ 0 → f.rate ≡ 0 → f.spare ≡ 0 → ReadAs f (Cancel f.member f.lots)
 cancel_read f fit code instrument side term rate spare =
     record {
       fields_are = fields_eq (fields_of (Cancel f.member f.lots)) f (cc);
       is_legal = and_from (ltb f.member 32) _ (lt-ltb f.member 32 fit.1.0) (lt-ltb f.lots 65536 fit.1.1.1.1.1.0);
     }
 
-cancel_all_read : (f : Fields) → Fit layout (values f) → f.code ≡ 3 → f.instrument ≡ 0 → f.side ≡ 0 → f.term ≡ 0 → f.lots ≡ 0 → f.rate ≡ 0 → f.spare ≡ 0 → ReadAs f (CancelAll f.member)
+cancel_all_read : (f : FieldValues) → Fit layout (values f) → f.code ≡ 3 → f.instrument ≡ 0 → f.side ≡ 0 → f.term ≡ 0 → f.lots ≡ 0 → f.rate ≡ 0 → f.spare ≡ 0 → ReadAs f (CancelAll f.member)
 cancel_all_read f fit code instrument side term lots rate spare =
     record { fields_are = fields_eq (fields_of (CancelAll f.member)) f (cc); is_legal = lt-ltb f.member 32 fit.1.0 }
 
@@ -165,7 +165,7 @@ eight_long bytes fit = eq-eqb (length bytes) 8 (fit_length eight_bytes bytes fit
 zero_and : (a : ℕ) (rest : Bool) → (eqb a 0 && rest) ≡ true → (a ≡ 0) × (rest ≡ true)
 zero_and a rest e = let p = and_parts (eqb a 0) rest e in (eqb-true a 0 p.0, p.1)
 
-read_as : (f : Fields) (c : Request) → Fit layout (values f) → request_of f ≡ Ok c → ReadAs f c
+read_as : (f : FieldValues) (c : Request) → Fit layout (values f) → request_of f ≡ Ok c → ReadAs f c
 read_as f c fit e =
     ⊎_elim placed (λ a. ⊎_elim (cancelled a) (λ b. ⊎_elim (all_cancelled a b) (illegal a b) (cases_Bool (is_cancel_all f))) (cases_Bool (is_cancel f))) (cases_Bool (is_place f))
   where
@@ -208,7 +208,7 @@ message_back bytes c fit e =
     let below = join_below eight_bytes bytes fit in
     let is_read : request_of (fields_in (join eight_bytes bytes)) ≡ Ok c = sym (cond-true (eqb (length bytes) 8) _ _ (eight_long bytes fit)) ∙ e in
     let as_c = read_as (fields_in (join eight_bytes bytes)) c (split_fits layout (join eight_bytes bytes)) is_read in
-    let same : join layout (values (fields_of c)) ≡ join eight_bytes bytes = ap (λ (f : Fields). join layout (values f)) as_c.fields_are ∙ join_split_whole layout (join eight_bytes bytes) below in
+    let same : join layout (values (fields_of c)) ≡ join eight_bytes bytes = ap (λ (f : FieldValues). join layout (values f)) as_c.fields_are ∙ join_split_whole layout (join eight_bytes bytes) below in
     (as_c.is_legal, ap (split eight_bytes) same ∙ split_join eight_bytes bytes fit)
 
 pub round_trips : RoundTrips

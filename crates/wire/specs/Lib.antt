@@ -1,3 +1,5 @@
 pub mod Fields
+pub mod Kinds
+pub mod Layout
 pub mod Messages
 pub mod Trips

@@ -1,18 +1,15 @@
 -- Both round trips.
-use Rattle.std.proofs.Common.{◌≡◌, ℕ, ◌-◌, ◌^◌, ◌<◌, ◌≤◌, Bool, true, false, cond, ◌&&◌, eqb, ltb, List, length, get_or, ℤ, pos, negsuc, Ok, Err, Result, sym, refl, ap, ◌∙◌, subst, ⊎_elim, arith}
-use Rattle.std.proofs.lemmas.Bool.{cond-true, cond-false, cases_Bool, and_parts, and_from, ltb-true, lt-ltb, le-ltb, eqb-true, eq-eqb, ne_eqb, cases_lt, cases_eq}
-use Rattle.terms.specs.declared.Side.{Side}
-use Rattle.terms.specs.declared.Side.TheVariants.{Bid, Offer}
-use Rattle.terms.specs.declared.Term.{Term}
-use Rattle.terms.specs.declared.Term.TheVariants.{Day, Immediate}
+use Rattle.std.proofs.Common.{◌≡◌, ℕ, ◌-◌, ◌^◌, ◌<◌, ◌≤◌, Bool, true, false, ◌&&◌, eqb, ltb, List, length, get_or, ℤ, pos, negsuc, Ok, Err, Result, sym, refl, ap, ◌∙◌, subst, ⊎_elim, arith}
+use Rattle.std.proofs.lemmas.Bool.{cond-true, cond-false, cases_Bool, and_parts, and_from, ltb-true, lt-ltb, le-ltb, eqb-true, eq-eqb, cases_lt}
 use Rattle.wire.specs.declared.request.Request.{Request}
 use Rattle.wire.specs.declared.request.Request.TheVariants.{Place, Cancel, CancelAll}
 use Rattle.wire.specs.declared.request.MessageRefusal.{MessageRefusal}
 use Rattle.wire.specs.declared.request.MessageRefusal.TheVariants.{NotLegal}
 use Rattle.wire.specs.Fields.{Fit, split, join}
 use Rattle.wire.specs.Layout.{layout, FieldValues, values}
-use Rattle.wire.specs.Messages.{eight_bytes, fields_in, fields_of, side_bit, side_of, term_bit, term_of, rate_bits, rate_of, rate_fits, legal, is_place, is_cancel, is_cancel_all, place_of, request_of, reading, message_of}
+use Rattle.wire.specs.Messages.{eight_bytes, fields_in, fields_of, rate_bits, rate_of, rate_fits, legal, is_place, is_cancel, is_cancel_all, place_of, request_of, reading, message_of}
 use Rattle.wire.specs.Trips.{RoundTrips, WorkedMessages}
+use Rattle.wire.specs.OneBits.{side_one_bit, term_one_bit}
 use Rattle.wire.proofs.Bits.{split_fits, join_split_whole, join_below, split_join, fit_length}
 
 abbrev from_values : List ℕ → FieldValues
@@ -52,34 +49,6 @@ rate_bits_below : (r : ℤ) → rate_fits r ≡ true → rate_bits r < 1048576
 rate_bits_below (pos n) fits = omega (arith, ltb-true n 524288 fits)
 rate_bits_below (negsuc n) fits = omega arith
 
-side_back : (b : ℕ) → b < 2 → side_bit (side_of b) ≡ b
-side_back b l = ⊎_elim
-    (λ e. ap side_bit (cond-true (eqb b 0) Bid Offer (eq-eqb b 0 e)) ∙ sym e)
-    (λ ne. ap side_bit (cond-false (eqb b 0) Bid Offer (ne_eqb b 0 ne)) ∙ omega arith)
-    (cases_eq b 0)
-
-term_back : (b : ℕ) → b < 2 → term_bit (term_of b) ≡ b
-term_back b l = ⊎_elim
-    (λ e. ap term_bit (cond-true (eqb b 0) Day Immediate (eq-eqb b 0 e)) ∙ sym e)
-    (λ ne. ap term_bit (cond-false (eqb b 0) Day Immediate (ne_eqb b 0 ne)) ∙ omega arith)
-    (cases_eq b 0)
-
-side_bit_below : (s : Side) → side_bit s < 2
-side_bit_below Bid = omega arith
-side_bit_below Offer = omega arith
-
-term_bit_below : (t : Term) → term_bit t < 2
-term_bit_below Day = omega arith
-term_bit_below Immediate = omega arith
-
-side_of_bit : (s : Side) → side_of (side_bit s) ≡ s
-side_of_bit Bid = refl
-side_of_bit Offer = refl
-
-term_of_bit : (t : Term) → term_of (term_bit t) ≡ t
-term_of_bit Day = refl
-term_of_bit Immediate = refl
-
 -- ---- a legal call is read as it was written
 
 -- What a legal place shows of its values.
@@ -93,7 +62,7 @@ place_parts m i q r ok =
 fields_fit : (c : Request) → legal c ≡ true → Fit layout (values (fields_of c))
 fields_fit (Place m i s t r q) ok =
     let p = place_parts m i q r ok in
-    (omega arith, (p.0, (p.1.0, (side_bit_below s, (term_bit_below t, (p.1.1.0, (rate_bits_below r p.1.1.1, (omega arith, tt))))))))
+    (omega arith, (p.0, (p.1.0, (side_one_bit.below s, (term_one_bit.below t, (p.1.1.0, (rate_bits_below r p.1.1.1, (omega arith, tt))))))))
 fields_fit (Cancel m n) ok =
     let p = and_parts (ltb m 32) (ltb n 65536) ok in
     (omega arith, (ltb-true m 32 p.0, (omega arith, (omega arith, (omega arith, (ltb-true n 65536 p.1, (omega arith, (omega arith, tt))))))))
@@ -103,8 +72,8 @@ fields_fit (CancelAll m) ok =
 request_back : (c : Request) → legal c ≡ true → request_of (fields_of c) ≡ Ok c
 request_back (Place m i s t r q) ok =
     let p = place_parts m i q r ok in
-    let side = side_of_bit s in
-    let term = term_of_bit t in
+    let side = side_one_bit.choice_back s in
+    let term = term_one_bit.choice_back t in
     let rate = rate_back r p.1.1.1 in
     cc
 request_back (Cancel m n) ok = refl
@@ -124,15 +93,15 @@ call_back c ok =
 
 -- ---- a legal message is written as it was read
 
--- FieldValues that are read as a call are that call's, and the call is legal.
+-- Fields that are read as a call are that call's, and the call is legal.
 record ReadAs (f : FieldValues) (c : Request) : Type 0 where
   fields_are : fields_of c ≡ f
   is_legal : legal c ≡ true
 
 place_read : (f : FieldValues) → Fit layout (values f) → f.code ≡ 1 → f.spare ≡ 0 → ReadAs f (place_of f)
 place_read f fit code spare =
-    let side = side_back f.side fit.1.1.1.0 in
-    let term = term_back f.term fit.1.1.1.1.0 in
+    let side = side_one_bit.bit_back f.side fit.1.1.1.0 in
+    let term = term_one_bit.bit_back f.term fit.1.1.1.1.0 in
     let rate = bits_back f.rate fit.1.1.1.1.1.1.0 in
     record {
       fields_are = fields_eq (fields_of (place_of f)) f (cc);
@@ -155,9 +124,6 @@ cancel_all_read f fit code instrument side term lots rate spare =
 
 ok_same : (c d : Request) → ◌≡◌ {A = Result Request MessageRefusal} (Ok c) (Ok d) → c ≡ d
 ok_same c d e = cc
-
-never_ok : (c : Request) → ◌≡◌ {A = Result Request MessageRefusal} (Err NotLegal) (Ok c) → ⊥
-never_ok c e = let z : ◌≡◌ {A = ℕ} 0 1 = cc in omega arith
 
 eight_long : (bytes : List ℕ) → Fit eight_bytes bytes → eqb (length bytes) 8 ≡ true
 eight_long bytes fit = eq-eqb (length bytes) 8 (fit_length eight_bytes bytes fit)
@@ -199,7 +165,7 @@ read_as f c fit e =
         (cancel_all_read f fit (eqb-true f.code 3 p0.0) p1.0 p2.0 p3.0 p4.0 p5.0 (eqb-true f.spare 0 p5.1))
 
     illegal : is_place f ≡ false → is_cancel f ≡ false → is_cancel_all f ≡ false → ReadAs f c
-    illegal a b h = absurd (never_ok c (sym (cond-false (is_place f) _ _ a ∙ cond-false (is_cancel f) _ _ b ∙ cond-false (is_cancel_all f) _ _ h) ∙ e))
+    illegal a b h = let none : ◌≡◌ {A = Result Request MessageRefusal} (Err NotLegal) (Ok c) = sym (cond-false (is_place f) _ _ a ∙ cond-false (is_cancel f) _ _ b ∙ cond-false (is_cancel_all f) _ _ h) ∙ e in cc
 
 message_back : (bytes : List ℕ) (c : Request) → Fit eight_bytes bytes → reading bytes ≡ Ok c → (legal c ≡ true) × (message_of c ≡ bytes)
 unfolding message_of
@@ -216,12 +182,3 @@ round_trips = record { call_read_back = call_back; message_written_back = messag
 
 pub worked_messages : WorkedMessages
 worked_messages = record { day_bid = refl; immediate_offer = refl; spare_bit = refl }
-
--- What a test answers tells the test.
-pub told_ok : {A : Type 0} (b : Bool) (x y : A) (r : MessageRefusal) → ◌≡◌ {A = Result A MessageRefusal} (Ok x) (cond b (Ok y) (Err r)) → (b ≡ true) × (x ≡ y)
-told_ok true x y r e = let same : x ≡ y = cc in (refl, same)
-told_ok false x y r e = let z : ◌≡◌ {A = ℕ} 0 1 = cc in absurd (omega arith)
-
-pub told_err : {A : Type 0} (b : Bool) (q r : MessageRefusal) (y : A) → ◌≡◌ {A = Result A MessageRefusal} (Err q) (cond b (Ok y) (Err r)) → (b ≡ false) × (q ≡ r)
-told_err true q r y e = let z : ◌≡◌ {A = ℕ} 0 1 = cc in absurd (omega arith)
-told_err false q r y e = let same : q ≡ r = cc in (refl, same)

@@ -45,14 +45,14 @@ impl Fields {
     pub(crate) fn request(&self) -> Result<Request, MessageRefusal>
         ensures { result ≡ request_of self.now }
     {
-        let unused = self.instrument + self.side + self.term + self.rate + self.spare;
+        let unused = [self.instrument, self.side, self.term, self.rate, self.spare];
         match Kind::try_from(self.code)? {
             Kind::Place if self.spare == 0 => Ok(self.place()),
-            Kind::Cancel if unused == 0 => Ok(Request::Cancel {
+            Kind::Cancel if unused == [0; 5] => Ok(Request::Cancel {
                 member: self.member as u8,
                 number: self.lots as u16,
             }),
-            Kind::CancelAll if unused + self.lots == 0 => Ok(Request::CancelAll {
+            Kind::CancelAll if unused == [0; 5] && self.lots == 0 => Ok(Request::CancelAll {
                 member: self.member as u8,
             }),
             _ => Err(MessageRefusal::NotLegal),
@@ -117,7 +117,7 @@ impl Fields {
 }
 
 // How many rates a message can say. They are in two's complement: the least is half of that below 0.
-const RATES: i32 = 1 << 20;
+const RATES: i32 = 1 << RATE.width;
 
 fn signed_rate(bits: u64) -> i32
     requires { bits < 2 ^ 20 }

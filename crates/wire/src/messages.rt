@@ -7,6 +7,7 @@ ghost use Rattle.wire.specs.Trips.{RoundTrips, WorkedMessages};
 use crate::layout::Fields;
 use crate::request::{MessageRefusal, Request};
 
+// The bytes of a message.
 const LENGTH: usize = 8;
 
 /// Reads a message.
@@ -60,11 +61,11 @@ pub fn pungetsai_check_message(message: &[u8]) -> u8
     }
 }
 
+// The message, if it is eight bytes. Every way through `read` passes here, so the round trips and the worked messages are
+// proved here once.
 #[tactic(auto, using(crate::proofs::BothWays::round_trips, crate::proofs::BothWays::worked_messages))]
-// Every way through `read` passes here, so the round trips and the worked messages are proved here once.
 fn eight_bytes_of(message: &[u8]) -> Result<[u8; LENGTH], MessageRefusal>
     ensures answer { result ≡ (if nat_eq (length message.now) 8 then Ok message.now else Err NotEightBytes) }
-    ensures sized { IfOk result (λ bytes. length bytes ≡ 8) }
     ensures round_trips { RoundTrips }
     ensures worked_messages { WorkedMessages }
 {
@@ -78,8 +79,8 @@ fn word_of(bytes: [u8; LENGTH]) -> u64
     u64::from_be_bytes(bytes)
 }
 
-#[tactic(auto, using(crate::proofs::BothWays::round_trips), unfolding(crate::specs::Messages::message_of))]
 // The message of a legal call, for a place of this size.
+#[tactic(auto, using(crate::proofs::BothWays::round_trips), unfolding(crate::specs::Messages::message_of))]
 fn message_for(request: &Request, size: usize) -> Result<[u8; LENGTH], MessageRefusal>
     ensures answer { result ≡ writable request.now size (message_of request.now) }
     ensures sized { IfOk result (λ message. size ≡ length message) }

@@ -1,8 +1,6 @@
-ghost use Rattle.std.specs.Prelude.{◌≡◌, ℕ, ◌<◌, refl};
-ghost use Rattle.std.proofs.Common.{rules};
+ghost use Rattle.std.specs.Prelude.{◌≡◌, ℕ, ◌<◌};
 ghost use Rattle.wire.specs.Messages.{side_bit, side_of, term_bit, term_of};
-ghost use Rattle.terms.specs.declared.Side.TheVariants.{Bid, Offer};
-ghost use Rattle.terms.specs.declared.Term.TheVariants.{Day, Immediate};
+ghost use Rattle.wire.specs.OneBits.{IsOneBit, side_one_bit, term_one_bit};
 
 use terms::{Side, Term};
 
@@ -20,9 +18,7 @@ pub(crate) trait OneBit {
         requires { bit < 2 }
         ensures { result ≡ of_bit bit };
 
-    ghost bit_undone: { (choice : Self) → of_bit (bit_of choice) ≡ choice };
-
-    ghost bit_back: { (bit : ℕ) → bit < 2 → bit_of (of_bit bit) ≡ bit };
+    ghost laws: { IsOneBit bit_of of_bit };
 }
 
 impl OneBit for Side {
@@ -30,9 +26,7 @@ impl OneBit for Side {
 
     ghost of_bit = { side_of };
 
-    ghost bit_undone = { elim [ Bid ↦ refl | Offer ↦ refl ] };
-
-    ghost bit_back = { Prim.search rules };
+    ghost laws = { side_one_bit };
 
     fn bit(self) -> u64 {
         match self {
@@ -51,9 +45,7 @@ impl OneBit for Term {
 
     ghost of_bit = { term_of };
 
-    ghost bit_undone = { elim [ Day ↦ refl | Immediate ↦ refl ] };
-
-    ghost bit_back = { Prim.search rules };
+    ghost laws = { term_one_bit };
 
     fn bit(self) -> u64 {
         match self {

@@ -69,7 +69,6 @@ word_below c ok = join_below layout (values (fields_of c)) (fields_fit c ok)
 call_back : (c : Request) → legal c ≡ true → reading (message_of c) ≡ Ok c
 unfolding message_of
 call_back c ok =
-    let word = join layout (values (fields_of c)) in
     let same : join eight_bytes (message_of c) ≡ join layout (values (fields_of c)) = join_split_whole eight_bytes (join layout (values (fields_of c))) (word_below c ok) in
     let fields : fields_in (join layout (values (fields_of c))) ≡ fields_of c = fields_eq (fields_in (join layout (values (fields_of c)))) (fields_of c) (split_join layout (values (fields_of c)) (fields_fit c ok)) in
     ap (λ w. request_of (fields_in w)) same ∙ ap request_of fields ∙ request_back c ok
@@ -123,7 +122,6 @@ read_as f c fit e =
 message_back : (bytes : List ℕ) (c : Request) → Fit eight_bytes bytes → reading bytes ≡ Ok c → (legal c ≡ true) × (message_of c ≡ bytes)
 unfolding message_of
 message_back bytes c fit e =
-    let word = join eight_bytes bytes in
     let below = join_below eight_bytes bytes fit in
     let is_read : request_of (fields_in (join eight_bytes bytes)) ≡ Ok c = sym (cond-true (eqb (length bytes) 8) _ _ (eight_long bytes fit)) ∙ e in
     let as_c = read_as (fields_in (join eight_bytes bytes)) c (split_fits layout (join eight_bytes bytes)) is_read in

@@ -30,11 +30,10 @@ impl Fields {
     pub(crate) fn word(&self) -> u64
         ensures { result ≡ join layout (values self.now) }
     {
-        let first = CODE.set(self.code)
+        CODE.set(self.code)
             + MEMBER.set(self.member)
             + INSTRUMENT.set(self.instrument)
-            + SIDE.set(self.side);
-        first
+            + SIDE.set(self.side)
             + TERM.set(self.term)
             + LOTS.set(self.lots)
             + RATE.set(self.rate)
@@ -59,6 +58,7 @@ impl Fields {
         }
     }
 
+    // A cast by `as`, here and in `request`, is proved to lose nothing: each value is within its field's width.
     fn place(&self) -> Request
         ensures { result ≡ place_of self.now }
     {
@@ -116,7 +116,8 @@ impl Fields {
     }
 }
 
-// How many rates a message can say. They are in two's complement: the least is half of that below 0.
+// How many rates a message can say. They are in two's complement, worked out here since no integer type has 20 bits: the
+// least is half of that number below 0.
 const RATES: i32 = 1 << RATE.width;
 
 fn signed_rate(bits: u64) -> i32

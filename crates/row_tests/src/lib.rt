@@ -9,22 +9,21 @@ mod tests {
     use row::{first, insert, remove};
     use terms::Order;
 
-    fn bid(rate: i32, number: u16) -> Bid {
-        Bid(Order {
+    fn order(rate: i32, number: u16) -> Order {
+        Order {
             rate,
             number,
             member: 0,
             lots: 1,
-        })
+        }
+    }
+
+    fn bid(rate: i32, number: u16) -> Bid {
+        Bid(order(rate, number))
     }
 
     fn offer(rate: i32, number: u16) -> Offer {
-        Offer(Order {
-            rate,
-            number,
-            member: 0,
-            lots: 1,
-        })
+        Offer(order(rate, number))
     }
 
     #[test]

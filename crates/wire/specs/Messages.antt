@@ -8,22 +8,14 @@ use Rattle.wire.specs.declared.request.Request.{Request}
 use Rattle.wire.specs.declared.request.Request.TheVariants.{Place, Cancel, CancelAll}
 use Rattle.wire.specs.declared.request.MessageRefusal.{MessageRefusal}
 use Rattle.wire.specs.declared.request.MessageRefusal.TheVariants.{NotEightBytes, NotLegal}
-use Rattle.wire.specs.declared.layout.Fields.{Fields}
 use Rattle.wire.specs.Fields.{field, split, join}
-
--- The widths of a message's fields, from the most significant bit: 64 bits in all.
-abbrev pub layout : List ℕ
-layout = 3 ∷ 5 ∷ 4 ∷ 1 ∷ 1 ∷ 16 ∷ 20 ∷ 14 ∷ []
+use Rattle.wire.specs.Layout.{layout, FieldValues, values}
 
 abbrev pub eight_bytes : List ℕ
 eight_bytes = 8 ∷ 8 ∷ 8 ∷ 8 ∷ 8 ∷ 8 ∷ 8 ∷ 8 ∷ []
 
-abbrev pub values : Fields → List ℕ
-values f =
-    f.code ∷ f.member ∷ f.instrument ∷ f.side ∷ f.term ∷ f.lots ∷ f.rate ∷ f.spare ∷ []
-
 -- Each field by its place and width; the places are what the widths after it take up.
-abbrev pub fields_in : ℕ → Fields
+abbrev pub fields_in : ℕ → FieldValues
 fields_in word =
     record {
       code = field word 61 3;
@@ -67,7 +59,7 @@ rate_fits (negsuc n) = nat_lt n 524288
 -- ---- a call and its fields
 
 -- Both cancels use the member's field, and one of them the field of lots.
-abbrev pub cancel_fields : ℕ → ℕ → ℕ → Fields
+abbrev pub cancel_fields : ℕ → ℕ → ℕ → FieldValues
 cancel_fields code member number =
     record {
       code = code;
@@ -80,7 +72,7 @@ cancel_fields code member number =
       spare = 0;
     }
 
-abbrev pub fields_of : Request → Fields
+abbrev pub fields_of : Request → FieldValues
 fields_of (Place member instrument side term rate lots) =
     record { code = 1; member = member; instrument = instrument; side = side_bit side; term = term_bit term; lots = lots; rate = rate_bits rate; spare = 0 }
 fields_of (Cancel member number) = cancel_fields 2 member number
@@ -93,21 +85,21 @@ legal (Cancel member number) = nat_lt member 32 && nat_lt number 65536
 legal (CancelAll member) = nat_lt member 32
 
 -- Code 1 is place, 2 cancel, with the order's number in the field of lots, 3 cancel all. Fields that a code does not use are 0.
-abbrev pub is_place : Fields → Bool
+abbrev pub is_place : FieldValues → Bool
 is_place f = f.code == 1 && f.spare == 0
 
-abbrev pub is_cancel : Fields → Bool
+abbrev pub is_cancel : FieldValues → Bool
 is_cancel f =
     (f.code == 2) && (f.instrument == 0 && (f.side == 0 && (f.term == 0 && (f.rate == 0 && f.spare == 0))))
 
-abbrev pub is_cancel_all : Fields → Bool
+abbrev pub is_cancel_all : FieldValues → Bool
 is_cancel_all f =
     (f.code == 3) && (f.instrument == 0 && (f.side == 0 && (f.term == 0 && (f.lots == 0 && (f.rate == 0 && f.spare == 0)))))
 
-abbrev pub place_of : Fields → Request
+abbrev pub place_of : FieldValues → Request
 place_of f = Place f.member f.instrument (side_of f.side) (term_of f.term) (rate_of f.rate) f.lots
 
-abbrev pub request_of : Fields → Result Request MessageRefusal
+abbrev pub request_of : FieldValues → Result Request MessageRefusal
 request_of f =
     cond (is_place f) (Ok (place_of f))
     (cond (is_cancel f) (Ok (Cancel f.member f.lots))

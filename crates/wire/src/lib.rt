@@ -2,7 +2,10 @@
 
 #![tactic(auto)]
 
+mod bit_field;
 mod fields;
+mod kind;
 mod layout;
 pub mod messages;
+mod one_bit;
 pub mod request;

@@ -1,11 +1,14 @@
 ghost use Rattle.std.specs.Prelude.{◌≡◌, length, IfOk, if◌then◌else◌, Ok, Err, nat_eq};
 ghost use Rattle.wire.specs.declared.request.MessageRefusal.TheVariants.{NotEightBytes};
-ghost use Rattle.wire.specs.Fields.{join, split, Fit};
-ghost use Rattle.wire.specs.Messages.{eight_bytes, layout, values, fields_in, reading, writable, writing, written, message_of, refusal_number, legality};
+ghost use Rattle.wire.specs.Fields.{join, split};
+ghost use Rattle.wire.specs.Messages.{eight_bytes, reading, writable, writing, written, message_of, refusal_number, legality};
 ghost use Rattle.wire.specs.Trips.{RoundTrips, WorkedMessages};
 
 use crate::layout::Fields;
 use crate::request::{MessageRefusal, Request};
+
+// The bytes of a message.
+const LENGTH: usize = 8;
 
 /// Reads a message.
 pub fn read(message: &[u8]) -> Result<Request, MessageRefusal>
@@ -13,8 +16,8 @@ pub fn read(message: &[u8]) -> Result<Request, MessageRefusal>
     ensures round_trips { RoundTrips }
     ensures worked_messages { WorkedMessages }
 {
-    check_length(message)?;
-    fields_of(word_of(message)).request()
+    let bytes = eight_bytes_of(message)?;
+    Fields::of_word(word_of(bytes)).request()
 }
 
 /// Writes a call as a message, into a place of eight bytes.
@@ -33,7 +36,15 @@ impl MessageRefusal {
     pub fn number(&self) -> u8
         ensures { result ≡ refusal_number self.now }
     {
-        match self {
+        u8::from(*self)
+    }
+}
+
+impl From<MessageRefusal> for u8 {
+    ghost from_gives = { λ refusal number. number ≡ refusal_number refusal };
+
+    fn from(refusal: MessageRefusal) -> u8 {
+        match refusal {
             MessageRefusal::NotEightBytes => 1,
             MessageRefusal::NotLegal => 2,
         }
@@ -50,49 +61,39 @@ pub fn pungetsai_check_message(message: &[u8]) -> u8
     }
 }
 
-// Every way through `read` passes here, so the round trips and the worked messages are proved here once.
-fn check_length(message: &[u8]) -> Result<(), MessageRefusal>
-    ensures answer { result ≡ (if nat_eq (length message.now) 8 then Ok tt else Err NotEightBytes) }
+// The message, if it is eight bytes. Every way through `read` passes here, so the round trips and the worked messages are
+// proved here once.
+#[tactic(auto, using(crate::proofs::BothWays::round_trips, crate::proofs::BothWays::worked_messages))]
+fn eight_bytes_of(message: &[u8]) -> Result<[u8; LENGTH], MessageRefusal>
+    ensures answer { result ≡ (if nat_eq (length message.now) 8 then Ok message.now else Err NotEightBytes) }
     ensures round_trips { RoundTrips }
     ensures worked_messages { WorkedMessages }
 {
-    if message.len() != 8 {
-        return Err(MessageRefusal::NotEightBytes);
-    }
-    Ok(())
+    <[u8; LENGTH]>::try_from(message).map_err(|_| MessageRefusal::NotEightBytes)
 }
 
 // The eight bytes as one number, the most significant first.
-fn word_of(message: &[u8]) -> u64
-    requires { length message.now ≡ 8 }
-    ensures { result ≡ join eight_bytes message.now }
+fn word_of(bytes: [u8; LENGTH]) -> u64
+    ensures { result ≡ join eight_bytes bytes }
 {
-    let mut bytes = [0; 8];
-    bytes.copy_from_slice(message);
     u64::from_be_bytes(bytes)
 }
 
-fn fields_of(word: u64) -> Fields
-    ensures value { result ≡ fields_in word }
-    ensures fit { Fit layout (values result) }
-{
-    Fields::of_word(word)
-}
-
 // The message of a legal call, for a place of this size.
-fn message_for(request: &Request, size: usize) -> Result<[u8; 8], MessageRefusal>
+#[tactic(auto, using(crate::proofs::BothWays::round_trips), unfolding(crate::specs::Messages::message_of))]
+fn message_for(request: &Request, size: usize) -> Result<[u8; LENGTH], MessageRefusal>
     ensures answer { result ≡ writable request.now size (message_of request.now) }
     ensures sized { IfOk result (λ message. size ≡ length message) }
     ensures round_trips { RoundTrips }
 {
-    if size != 8 {
+    if size != LENGTH {
         return Err(MessageRefusal::NotEightBytes);
     }
     let fields = Fields::of_request(request)?;
     Ok(bytes_of(fields.word()))
 }
 
-fn bytes_of(word: u64) -> [u8; 8]
+fn bytes_of(word: u64) -> [u8; LENGTH]
     ensures { result ≡ split eight_bytes word }
 {
     word.to_be_bytes()

@@ -30,21 +30,6 @@ mod tests {
 
     #[test]
     fn worked_messages_and_the_ends_of_the_rate(rt: HostRuntime) {
-        goes_both_ways(
-            &rt,
-            &bid_at(61_000),
-            [0x20, 0x00, 0x00, 0x14, 0x3B, 0x92, 0x00, 0x00],
-        );
-        goes_both_ways(
-            &rt,
-            &bid_at(-524_288),
-            [0x20, 0x00, 0x00, 0x16, 0x00, 0x00, 0x00, 0x00],
-        );
-        goes_both_ways(
-            &rt,
-            &bid_at(524_287),
-            [0x20, 0x00, 0x00, 0x15, 0xFF, 0xFF, 0xC0, 0x00],
-        );
         let offer = Request::Place {
             member: 31,
             instrument: 15,
@@ -53,51 +38,42 @@ mod tests {
             rate: -1,
             lots: 1,
         };
-        goes_both_ways(
-            &rt,
-            &offer,
-            [0x3F, 0xFC, 0x00, 0x07, 0xFF, 0xFF, 0xC0, 0x00],
-        );
-        goes_both_ways(
-            &rt,
-            &Request::Cancel {
-                member: 2,
-                number: 65_535,
-            },
-            [0x42, 0x03, 0xFF, 0xFC, 0, 0, 0, 0],
-        );
-        goes_both_ways(
-            &rt,
-            &Request::CancelAll { member: 31 },
-            [0x7F, 0, 0, 0, 0, 0, 0, 0],
-        );
+        let cancel = Request::Cancel {
+            member: 2,
+            number: 65_535,
+        };
+        let worked = [
+            (
+                bid_at(61_000),
+                [0x20, 0x00, 0x00, 0x14, 0x3B, 0x92, 0x00, 0x00],
+            ),
+            (
+                bid_at(-524_288),
+                [0x20, 0x00, 0x00, 0x16, 0x00, 0x00, 0x00, 0x00],
+            ),
+            (
+                bid_at(524_287),
+                [0x20, 0x00, 0x00, 0x15, 0xFF, 0xFF, 0xC0, 0x00],
+            ),
+            (offer, [0x3F, 0xFC, 0x00, 0x07, 0xFF, 0xFF, 0xC0, 0x00]),
+            (cancel, [0x42, 0x03, 0xFF, 0xFC, 0, 0, 0, 0]),
+            (
+                Request::CancelAll { member: 31 },
+                [0x7F, 0, 0, 0, 0, 0, 0, 0],
+            ),
+        ];
+        for (request, bytes) in worked {
+            goes_both_ways(&rt, &request, bytes);
+        }
     }
 
     #[test]
     fn values_that_do_not_fit_are_refused_and_nothing_is_written(rt: HostRuntime) {
         let mut place = [0xAA; 8];
-        assert_eq!(rt;
-            write(&bid_at(524_288), &mut place),
-            Err(MessageRefusal::NotLegal)
-        );
-        assert_eq!(rt;
-            write(&bid_at(-524_289), &mut place),
-            Err(MessageRefusal::NotLegal)
-        );
-        assert_eq!(rt;
-            write(&Request::CancelAll { member: 32 }, &mut place),
-            Err(MessageRefusal::NotLegal)
-        );
-        assert_eq!(rt;
-            write(
-                &Request::Cancel {
-                    member: 32,
-                    number: 1,
-                },
-                &mut place,
-            ),
-            Err(MessageRefusal::NotLegal)
-        );
+        let cancel = Request::Cancel {
+            member: 32,
+            number: 1,
+        };
         let far = Request::Place {
             member: 0,
             instrument: 16,
@@ -106,7 +82,10 @@ mod tests {
             rate: 0,
             lots: 1,
         };
-        assert_eq!(rt; write(&far, &mut place), Err(MessageRefusal::NotLegal));
+        let cancel_all = Request::CancelAll { member: 32 };
+        for request in [bid_at(524_288), bid_at(-524_289), cancel_all, cancel, far] {
+            assert_eq!(rt; write(&request, &mut place), Err(MessageRefusal::NotLegal));
+        }
         let mut short = [0xAA; 7];
         assert_eq!(rt;
             write(&far, &mut short),
@@ -120,7 +99,7 @@ mod tests {
     #[test]
     fn codes_and_lengths(rt: HostRuntime) {
         for code in 0u8..8 {
-            let legal = code >= 1 && code <= 3;
+            let legal = (1..=3).contains(&code);
             let message = [code * 32, 0, 0, 0, 0, 0, 0, 0];
             assert_eq!(rt;
                 pungetsai_check_message(&message),

@@ -17,9 +17,10 @@ use Rattle.venue.specs.declared.incoming.IncomingOrder.{IncomingOrder}
 abbrev pub pending_count : Market → ℕ
 pending_count M = length (pending_orders M.rows)
 
--- A placed order with so many lots left.
-abbrev pub with_rest : IncomingOrder → ℕ → IncomingOrder
-with_rest incoming rest = record { number = incoming.number; order = incoming.order; rest = rest }
+-- The same placed order, whatever is left of it.
+pub record SameOrder (before after : IncomingOrder) : Type 0 where
+  pub number : after.number ≡ before.number
+  pub order : after.order ≡ before.order
 
 -- An order that goes on to meet, with nothing told yet.
 abbrev pub meeting_at : Market → ℕ → Meeting

@@ -1,7 +1,7 @@
 ghost use Rattle.std.specs.Prelude.{◌≡◌, ◌+◌, ◌<◌, ◌≤◌, min, [], ◌∷◌, length};
 ghost use Rattle.market.specs.Lists.{Wrote};
 ghost use Rattle.market.specs.Meeting.{rest_cancelled};
-ghost use Rattle.venue.specs.Turns.{with_rest};
+ghost use Rattle.venue.specs.Turns.{SameOrder};
 
 use crate::incoming::IncomingOrder;
 use market::events::{Cancellation, Event, Reason};
@@ -40,7 +40,8 @@ impl EventList<'_> {
         requires { self.old.told + min 1 incoming.old.rest ≤ length self.old.places.now }
         ensures same_list { self.new.places.ghost_name ≡ self.old.places.ghost_name }
         ensures wrote { Wrote self.old.places.now self.new.places.now self.old.told self.new.told (rest_cancelled incoming.old.number incoming.old.order reason incoming.old.rest) }
-        ensures incoming { incoming.new ≡ with_rest incoming.old 0 }
+        ensures same_order { SameOrder incoming.old incoming.new }
+        ensures none_left { incoming.new.rest ≡ 0 }
     {
         self.tell_rest(incoming, reason);
         incoming.rest = 0;

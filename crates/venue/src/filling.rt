@@ -2,7 +2,7 @@ ghost use Rattle.std.specs.Prelude.{◌≡◌, ◌+◌, ◌<◌, ◌≤◌, min,
 ghost use Rattle.market.specs.Meeting.{opposite, lowers_need, is_hindered};
 ghost use Rattle.book.specs.Reads.{first_of};
 ghost use Rattle.venue.specs.Reads.{market_of};
-ghost use Rattle.venue.specs.Turns.{pending_count, meeting_at, after_first_fill, fill_first, with_rest, Turned};
+ghost use Rattle.venue.specs.Turns.{pending_count, meeting_at, after_first_fill, fill_first, SameOrder, Turned};
 
 use crate::event_list::EventList;
 use crate::incoming::{IncomingOrder, opposite_of};
@@ -53,11 +53,11 @@ impl<K: Keeper> Venue<K> {
         pending: &Order,
         list: &mut EventList<'_>,
     ) -> bool
-        requires in_range { (incoming.old.order.instrument < 16) × (0 < incoming.old.rest) }
+        requires some_left { 0 < incoming.old.rest }
         requires room_for_events { list.old.told + pending_count (market_of K.Keeper.sheet self.old) + 1 ≤ length list.old.places.now }
         requires pending_is_first { Some pending.now ≡ first_of ((market_of K.Keeper.sheet self.old).rows (opposite incoming.old.order.side) incoming.old.order.instrument) }
         ensures same_list { list.new.places.ghost_name ≡ list.old.places.ghost_name }
-        ensures same_order { incoming.new ≡ with_rest incoming.old incoming.new.rest }
+        ensures same_order { SameOrder incoming.old incoming.new }
         ensures turned { Turned (fill_first K.Keeper.charge K.Keeper.REACH incoming.old.number incoming.old.order (meeting_at (market_of K.Keeper.sheet self.old) incoming.old.rest) ((market_of K.Keeper.sheet self.old).rows (opposite incoming.old.order.side) incoming.old.order.instrument)) (market_of K.Keeper.sheet self.new) incoming.new.rest result list.old.places.now list.new.places.now list.old.told list.new.told }
         ensures few { list.new.told + pending_count (market_of K.Keeper.sheet self.new) + min 1 incoming.new.rest ≤ list.old.told + pending_count (market_of K.Keeper.sheet self.old) + 1 }
         ensures going { result ≡ true → 0 < incoming.new.rest }

@@ -1,4 +1,4 @@
-ghost use Rattle.std.specs.Prelude.{◌≡◌};
+ghost use Rattle.std.specs.Prelude.{◌≡◌, ◌<◌};
 ghost use Rattle.market.specs.Meeting.{opposite, apart, trade_of, order_of};
 
 use market::events::Trade;
@@ -11,6 +11,7 @@ pub(crate) struct IncomingOrder {
     pub(crate) number: u16,
     pub(crate) order: NewOrder,
     pub(crate) rest: u16,
+    ghost in_range: { order.instrument < 16 },
 }
 
 pub(crate) fn opposite_of(side: Side) -> Side

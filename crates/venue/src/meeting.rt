@@ -2,7 +2,7 @@ ghost use Rattle.std.specs.Prelude.{◌≡◌, ◌+◌, ◌<◌, ◌≤◌, min,
 ghost use Rattle.terms.specs.declared.Term.TheVariants.{Day};
 ghost use Rattle.market.specs.Meeting.{turn as turned_by, met, stored};
 ghost use Rattle.venue.specs.Reads.{market_of};
-ghost use Rattle.venue.specs.Turns.{pending_count, meeting_at, rest_settled, with_rest, Turned, Met, Did};
+ghost use Rattle.venue.specs.Turns.{pending_count, meeting_at, rest_settled, SameOrder, Turned, Met, Did};
 
 use crate::event_list::EventList;
 use crate::incoming::{IncomingOrder, opposite_of};
@@ -15,10 +15,10 @@ use terms::Term;
 impl<K: Keeper> Venue<K> {
     // The placed order comes to the first opposite order of its instrument. Answers whether it goes on to meet.
     fn turn(&mut self, incoming: &mut IncomingOrder, list: &mut EventList<'_>) -> bool
-        requires in_range { (incoming.old.order.instrument < 16) × (0 < incoming.old.rest) }
+        requires some_left { 0 < incoming.old.rest }
         requires room_for_events { list.old.told + pending_count (market_of K.Keeper.sheet self.old) + 1 ≤ length list.old.places.now }
         ensures same_list { list.new.places.ghost_name ≡ list.old.places.ghost_name }
-        ensures same_order { incoming.new ≡ with_rest incoming.old incoming.new.rest }
+        ensures same_order { SameOrder incoming.old incoming.new }
         ensures turned { Turned (turned_by K.Keeper.charge K.Keeper.REACH incoming.old.number incoming.old.order (meeting_at (market_of K.Keeper.sheet self.old) incoming.old.rest)) (market_of K.Keeper.sheet self.new) incoming.new.rest result list.old.places.now list.new.places.now list.old.told list.new.told }
         ensures few { list.new.told + pending_count (market_of K.Keeper.sheet self.new) + min 1 incoming.new.rest ≤ list.old.told + pending_count (market_of K.Keeper.sheet self.old) + 1 }
         ensures going { result ≡ true → 0 < incoming.new.rest }
@@ -43,11 +43,11 @@ impl<K: Keeper> Venue<K> {
 
     // Lets a placed order meet as long as it goes on.
     pub(crate) fn meet(&mut self, incoming: &mut IncomingOrder, list: &mut EventList<'_>)
-        requires in_range { (incoming.old.order.instrument < 16) × (0 < incoming.old.order.lots) }
+        requires some_left { 0 < incoming.old.rest }
         requires from_the_start { (incoming.old.rest ≡ incoming.old.order.lots) × (list.old.told ≡ 0) }
         requires room_for_events { pending_count (market_of K.Keeper.sheet self.old) + 1 ≤ length list.old.places.now }
         ensures same_list { list.new.places.ghost_name ≡ list.old.places.ghost_name }
-        ensures same_order { incoming.new ≡ with_rest incoming.old incoming.new.rest }
+        ensures same_order { SameOrder incoming.old incoming.new }
         ensures met { Met (met K.Keeper.charge K.Keeper.REACH incoming.old.number incoming.old.order (market_of K.Keeper.sheet self.old)) (market_of K.Keeper.sheet self.new) incoming.new.rest list.old.places.now list.new.places.now 0 list.new.told }
         ensures few { list.new.told + pending_count (market_of K.Keeper.sheet self.new) + min 1 incoming.new.rest ≤ pending_count (market_of K.Keeper.sheet self.old) + 1 }
     {
@@ -60,7 +60,7 @@ impl<K: Keeper> Venue<K> {
 
     // What is left of a placed order: of a day order it becomes pending, of an immediate one it is cancelled.
     pub(crate) fn settle(&mut self, incoming: &IncomingOrder, list: &mut EventList<'_>)
-        requires room_in_book { (incoming.now.order.instrument < 16) × ((incoming.now.order.term ≡ Day → pending_count (market_of K.Keeper.sheet self.old) + min 1 incoming.now.rest ≤ 256)) }
+        requires room_in_book { incoming.now.order.term ≡ Day → pending_count (market_of K.Keeper.sheet self.old) + min 1 incoming.now.rest ≤ 256 }
         requires room_for_events { list.old.told + min 1 incoming.now.rest ≤ length list.old.places.now }
         ensures same_list { list.new.places.ghost_name ≡ list.old.places.ghost_name }
         ensures did { Did (rest_settled incoming.now.number incoming.now.order (market_of K.Keeper.sheet self.old) incoming.now.rest) (market_of K.Keeper.sheet self.new) list.old.places.now list.new.places.now list.old.told list.new.told }
@@ -75,7 +75,7 @@ impl<K: Keeper> Venue<K> {
     }
 
     fn store(&mut self, incoming: &IncomingOrder)
-        requires { (incoming.now.order.instrument < 16) × (pending_count (market_of K.Keeper.sheet self.old) < 256) }
+        requires { pending_count (market_of K.Keeper.sheet self.old) < 256 }
         ensures { market_of K.Keeper.sheet self.new ≡ stored incoming.now.number incoming.now.order (market_of K.Keeper.sheet self.old) incoming.now.rest }
     {
         let _ = self.book.put(Entry {

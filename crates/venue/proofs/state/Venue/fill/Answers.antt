@@ -16,21 +16,21 @@ use Rattle.venue.proofs.state.Venue.fill.Goals.{then-judge, else-judge}
 pub judge-requires : goal.judge-requires
 judge-requires g c =
     let incoming = c.args.incoming.now in
-    let few = trade_few g.K.Keeper.REACH (market_of g.K.Keeper.sheet c.args.self.now) incoming.order c.args.pending.now incoming.rest c.min-lots.result c.requires.in_range.0 c.requires.in_range.1 c.min-lots.ensures c.requires.pending_is_first in
+    let few = trade_few g.K.Keeper.REACH (market_of g.K.Keeper.sheet c.args.self.now) incoming.order c.args.pending.now incoming.rest c.min-lots.result incoming.in_range c.requires.some_left c.min-lots.ensures c.requires.pending_is_first in
     let after = ap pending_count c.trade.ensures in
     omega (arith, c.tell.ensures.wrote.count, wrote_length _ _ _ _ _ c.tell.ensures.wrote, c.requires.room_for_events)
 
 pub cancel_rest-requires : goal.cancel_rest-requires
 cancel_rest-requires g c =
     let incoming = c.args.incoming.now in
-    let few = trade_few g.K.Keeper.REACH (market_of g.K.Keeper.sheet c.args.self.now) incoming.order c.args.pending.now incoming.rest c.min-lots.result c.requires.in_range.0 c.requires.in_range.1 c.min-lots.ensures c.requires.pending_is_first in
+    let few = trade_few g.K.Keeper.REACH (market_of g.K.Keeper.sheet c.args.self.now) incoming.order c.args.pending.now incoming.rest c.min-lots.result incoming.in_range c.requires.some_left c.min-lots.ensures c.requires.pending_is_first in
     let after = ap pending_count c.trade.ensures in
     omega (arith, c.tell.ensures.wrote.count, wrote_length _ _ _ _ _ c.tell.ensures.wrote, c.judge.ensures.few, wrote_length _ _ _ _ _ c.judge.ensures.did.wrote, c.requires.room_for_events)
 
 pub judge-requires-2 : goal.judge-requires-2
 judge-requires-2 g c =
     let incoming = c.args.incoming.now in
-    let few = trade_few g.K.Keeper.REACH (market_of g.K.Keeper.sheet c.args.self.now) incoming.order c.args.pending.now incoming.rest c.min-lots.result c.requires.in_range.0 c.requires.in_range.1 c.min-lots.ensures c.requires.pending_is_first in
+    let few = trade_few g.K.Keeper.REACH (market_of g.K.Keeper.sheet c.args.self.now) incoming.order c.args.pending.now incoming.rest c.min-lots.result incoming.in_range c.requires.some_left c.min-lots.ensures c.requires.pending_is_first in
     let after = ap pending_count c.trade.ensures in
     let told = c.tell.ensures.wrote in
     let placing = c.judge.ensures.did.wrote in
@@ -50,7 +50,7 @@ returns-clause-turned g c =
     let after = c.judge-2.new.list in
     let told = subst (λ (t : Trade). Wrote list.places.now c.tell.new.self.places.now list.told c.tell.new.self.told (Traded t ∷ [])) c.trade_with.ensures c.tell.ensures.wrote in
     elim c.if-judge.branch [
-      | then-judge w ↦ rw (w.incoming-is, w.cancel_rest.ensures.incoming) (
+      | then-judge w ↦ rw (w.incoming-is, w.cancel_rest.ensures.none_left) (
           filled_first g.K.Keeper.charge g.K.Keeper.REACH incoming.number incoming.order M N O P incoming.rest c.min-lots.result c.args.pending.now true
           list.places.now c.tell.new.self.places.now c.judge.new.list.places.now w.cancel_rest.new.self.places.now after.places.now list.told c.tell.new.self.told c.judge.new.list.told w.cancel_rest.new.self.told after.told
           c.min-lots.ensures c.requires.pending_is_first c.trade.ensures told c.judge.ensures.did (sym w.if-judge.true ∙ c.judge.ensures.fallen) w.cancel_rest.ensures.wrote
@@ -66,12 +66,12 @@ returns-clause-turned g c =
 pub returns-clause-few : goal.returns-clause-few
 returns-clause-few g c =
     let incoming = c.args.incoming.now in
-    let few = trade_few g.K.Keeper.REACH (market_of g.K.Keeper.sheet c.args.self.now) incoming.order c.args.pending.now incoming.rest c.min-lots.result c.requires.in_range.0 c.requires.in_range.1 c.min-lots.ensures c.requires.pending_is_first in
+    let few = trade_few g.K.Keeper.REACH (market_of g.K.Keeper.sheet c.args.self.now) incoming.order c.args.pending.now incoming.rest c.min-lots.result incoming.in_range c.requires.some_left c.min-lots.ensures c.requires.pending_is_first in
     let after = ap pending_count c.trade.ensures in
     let told = c.tell.ensures.wrote in
     elim c.if-judge.branch [
       | then-judge w ↦
-          let none = ap (λ (i : IncomingOrder). i.rest) (w.incoming-is ∙ w.cancel_rest.ensures.incoming) in
+          let none = ap (λ (i : IncomingOrder). i.rest) w.incoming-is ∙ w.cancel_rest.ensures.none_left in
           let from = ap (λ (l : EventList). l.told) w.list-is in
           let own = w.cancel_rest.ensures.wrote in
           omega (arith, told.count, c.judge.ensures.few, own.count, rest_few incoming.number incoming.order TurnedToReduction (incoming.rest - c.min-lots.result), c.judge-2.ensures.few)

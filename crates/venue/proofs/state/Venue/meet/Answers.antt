@@ -1,8 +1,7 @@
 use Rattle.std.proofs.Common.{◌≡◌, suc, ◌+◌, ◌-◌, take, ap, ◌∙◌, subst, arith}
-use Rattle.market.specs.Meeting.{met, turn, repeated}
-use Rattle.venue.specs.declared.incoming.IncomingOrder.{IncomingOrder}
+use Rattle.market.specs.Meeting.{Meeting, met, turn, repeated}
 use Rattle.venue.specs.Reads.{market_of}
-use Rattle.venue.specs.Turns.{meeting_at, with_rest, Turned}
+use Rattle.venue.specs.Turns.{meeting_at, Turned}
 use Rattle.venue.proofs.Turning.{going, turned_on, turned_over, all_wrote, none_left}
 use Rattle.venue.proofs.state.Venue.meet.Goals as goal
 
@@ -20,7 +19,7 @@ returns-then-not-turn-clause-met g c =
     let after = c.turn.new.list in
     let here = going M c.loop.incoming.rest (take mid.told mid.places.now) in
     let before = c.loop.invariant.to_come ∙ ap (λ n. repeated n (turn charge reach number new) here) (let e : new.lots - c.loop.counter ≡ suc k = omega arith in e) in
-    let turned = subst (λ (i : IncomingOrder). Turned (turn charge reach i.number i.order (meeting_at M c.loop.incoming.rest)) N c.turn.new.incoming.rest c.turn.result mid.places.now after.places.now mid.told after.told) c.loop.invariant.same_order c.turn.ensures.turned in
+    let turned = subst (λ (t : Meeting). Turned t N c.turn.new.incoming.rest c.turn.result mid.places.now after.places.now mid.told after.told) (λ i. turn charge reach (c.loop.invariant.same_order.number i) (c.loop.invariant.same_order.order i) (meeting_at M c.loop.incoming.rest)) c.turn.ensures.turned in
     let over = turned_over charge reach number new whole k M N c.loop.incoming.rest c.turn.new.incoming.rest c.turn.result c.args.list.now.places.now mid.places.now after.places.now mid.told after.told before c.loop.invariant.wrote turned c.if-not-turn.true in
     record { market_is = over.market_is; rest_is = over.rest_is; wrote = over.wrote }
 
@@ -39,14 +38,14 @@ loop-preserved g c =
     let here = going M c.loop.incoming.rest (take mid.told mid.places.now) in
     let before = c.loop.invariant.to_come ∙ ap (λ n. repeated n (turn charge reach number new) here) (let e : new.lots - c.loop.counter ≡ suc k = omega arith in e) in
     let meets = c.if-not-turn.false in
-    let turned = subst (λ (i : IncomingOrder). Turned (turn charge reach i.number i.order (meeting_at M c.loop.incoming.rest)) N c.turn.new.incoming.rest c.turn.result mid.places.now after.places.now mid.told after.told) c.loop.invariant.same_order c.turn.ensures.turned in
+    let turned = subst (λ (t : Meeting). Turned t N c.turn.new.incoming.rest c.turn.result mid.places.now after.places.now mid.told after.told) (λ i. turn charge reach (c.loop.invariant.same_order.number i) (c.loop.invariant.same_order.order i) (meeting_at M c.loop.incoming.rest)) c.turn.ensures.turned in
     let on = turned_on charge reach number new whole k M N c.loop.incoming.rest c.turn.new.incoming.rest c.turn.result c.args.list.now.places.now mid.places.now after.places.now mid.told after.told before c.loop.invariant.wrote turned in
     record {
       to_come = on ∙ (λ i. repeated k (turn charge reach number new) (record { market = N; rest = c.turn.new.incoming.rest; meets = meets i; events = take after.told after.places.now }));
       wrote = all_wrote charge reach number new whole k M N c.loop.incoming.rest c.turn.new.incoming.rest c.turn.result c.args.list.now.places.now mid.places.now after.places.now mid.told after.told before c.loop.invariant.wrote turned;
       some_left = c.turn.ensures.going meets;
       few = omega (arith, c.turn.ensures.few, c.loop.invariant.few, c.turn.ensures.going meets);
-      same_order = c.turn.ensures.same_order ∙ ap (λ (i : IncomingOrder). with_rest i c.turn.new.incoming.rest) c.loop.invariant.same_order;
+      same_order = record { number = c.turn.ensures.same_order.number ∙ c.loop.invariant.same_order.number; order = c.turn.ensures.same_order.order ∙ c.loop.invariant.same_order.order };
       same_list = c.turn.ensures.same_list ∙ c.loop.invariant.same_list;
     }
 

@@ -2,7 +2,7 @@ use Rattle.std.proofs.Common.{◌≡◌, ◌+◌, ◌-◌, ◌<◌, ◌≤◌, t
 use Rattle.market.specs.Lists.{Wrote}
 use Rattle.market.specs.Meeting.{met, turn, repeated}
 use Rattle.venue.specs.Reads.{market_of}
-use Rattle.venue.specs.Turns.{pending_count, with_rest}
+use Rattle.venue.specs.Turns.{pending_count, SameOrder}
 use Rattle.venue.proofs.Turning.{going}
 use Rattle.venue.proofs.state.Venue.meet.Given as goal
 
@@ -16,6 +16,6 @@ invariant-loop g l =
       wrote : Wrote l.initial.list.places.now l.list.places.now 0 l.list.told (take l.list.told l.list.places.now);
       some_left : 0 < l.incoming.rest;
       few : l.list.told + pending_count (market_of g.K.Keeper.sheet l.self) ≤ pending_count (market_of g.K.Keeper.sheet l.initial.self);
-      same_order : l.incoming ≡ with_rest l.initial.incoming l.incoming.rest;
+      same_order : SameOrder l.initial.incoming l.incoming;
       same_list : l.list.places.ghost_name ≡ l.initial.list.places.ghost_name;
     }

@@ -1,6 +1,6 @@
 use Rattle.std.proofs.Common.{length, add-one, subst, arith}
 use Rattle.market.proofs.Lists.{wrote_length}
-use Rattle.venue.specs.declared.incoming.IncomingOrder.{IncomingOrder}
+use Rattle.market.specs.Markets.{Told}
 use Rattle.venue.specs.Reads.{market_of}
 use Rattle.venue.specs.Turns.{rest_settled, Did}
 use Rattle.venue.proofs.Checks.{pending_few}
@@ -23,7 +23,7 @@ pub settle-requires-clause-room_in_book : goal.settle-requires-clause-room_in_bo
 settle-requires-clause-room_in_book g c =
     let v = c.args.self.now in
     let ok = placeable g.K.Keeper.charge g.K.Keeper.REACH (length c.args.list.now.places.now) (market_of g.K.Keeper.sheet v) c.args.new.now (omega (arith, pending_few v.book)) c.requires.passed in
-    (rw c.meet.ensures.same_order ok.in_range, rw c.meet.ensures.same_order (λ day. omega (arith, ok.free_place day, c.meet.ensures.few)))
+    rw c.meet.ensures.same_order.order (λ day. omega (arith, ok.free_place day, c.meet.ensures.few))
 
 pub settle-requires-clause-room_for_events : goal.settle-requires-clause-room_for_events
 settle-requires-clause-room_for_events g c =
@@ -39,5 +39,5 @@ returns-clause-obeys g c =
     let list = c.args.list.now in
     let mid = c.meet.new.list in
     let after = c.settle.new.list in
-    let did = subst (λ (i : IncomingOrder). Did (rest_settled i.number i.order (market_of g.K.Keeper.sheet c.meet.new.self) c.meet.new.incoming.rest) O mid.places.now after.places.now mid.told after.told) c.meet.ensures.same_order c.settle.ensures.did in
+    let did = subst (λ (t : Told). Did t O mid.places.now after.places.now mid.told after.told) (λ i. rest_settled (c.meet.ensures.same_order.number i) (c.meet.ensures.same_order.order i) (market_of g.K.Keeper.sheet c.meet.new.self) c.meet.new.incoming.rest) c.settle.ensures.did in
     place_obeys g.K.Keeper.charge g.K.Keeper.REACH c.args.new.now M (market_of g.K.Keeper.sheet c.meet.new.self) O _ c.meet.new.incoming.rest list.places.now mid.places.now after.places.now mid.told after.told (add-one v.given) c.requires.passed c.meet.ensures.met did

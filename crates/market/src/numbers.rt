@@ -1,5 +1,4 @@
 ghost use Rattle.std.specs.Prelude.{◌≡◌};
-ghost use Rattle.market.specs.declared.refusals.Refusal.TheVariants.{ValueOutOfRange};
 ghost use Rattle.market.specs.Numbers.{benchmark_number, benchmark_numbered, group_number, group_numbered, benchmarks_number, benchmarks_numbered, reason_number, refusal_number, or_unknown};
 
 use crate::events::Reason;
@@ -11,15 +10,6 @@ use crate::refusals::Refusal;
 #[derive(Clone, Copy, PartialEq, Eq, Debug)]
 pub struct UnknownNumber {
     pub number: u8,
-}
-
-// What admit and define are given by number has to stand for something.
-impl From<UnknownNumber> for Refusal {
-    ghost from_gives = { λ _ refusal. refusal ≡ ValueOutOfRange };
-
-    fn from(_number: UnknownNumber) -> Refusal {
-        Refusal::ValueOutOfRange
-    }
 }
 
 impl From<Benchmark> for u8 {

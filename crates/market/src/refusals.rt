@@ -1,6 +1,8 @@
-ghost use Rattle.std.specs.Prelude.{Some};
+ghost use Rattle.std.specs.Prelude.{◌≡◌, Some};
+ghost use Rattle.market.specs.declared.refusals.Refusal.TheVariants.{ValueOutOfRange as OutOfRange};
 ghost use Rattle.market.specs.Wording.{refusal_words};
 
+use crate::numbers::UnknownNumber;
 use std::error::Error;
 use std::fmt;
 
@@ -56,3 +58,12 @@ impl fmt::Display for Refusal {
 }
 
 impl Error for Refusal {}
+
+// What admit and define are given by number has to stand for something.
+impl From<UnknownNumber> for Refusal {
+    ghost from_gives = { λ _ refusal. refusal ≡ OutOfRange };
+
+    fn from(_number: UnknownNumber) -> Refusal {
+        Refusal::ValueOutOfRange
+    }
+}

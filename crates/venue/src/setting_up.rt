@@ -11,7 +11,7 @@ ghost use Rattle.venue.specs.Obeys.{Obeys, as_answer, Passes};
 ghost use Rattle.venue.specs.Reads.{market_of};
 
 use crate::grounds::check_set_up;
-use crate::state::{HIGHEST_LOTS, INSTRUMENTS, Instruments, MEMBERS, Members, Venue};
+use crate::state::{HIGHEST_LOTS, INSTRUMENTS, MEMBERS, Table, Venue};
 use book::books::Book;
 use margin::keeper::Keeper;
 use market::calls::Phase;
@@ -32,10 +32,10 @@ impl<K: Keeper> Venue<K> {
     {
         Venue {
             phase,
-            members: Members {
+            members: Table {
                 rows: [None; MEMBERS],
             },
-            instruments: Instruments {
+            instruments: Table {
                 rows: [None; INSTRUMENTS],
             },
             book: Book::empty(),

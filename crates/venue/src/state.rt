@@ -18,17 +18,17 @@ pub(crate) const HIGHEST_LOTS: u16 = 1_000;
 /// Rates are from its negative to this, in ten-thousandths of a per cent.
 pub(crate) const HIGHEST_RATE: i32 = 500_000;
 
-/// The table of members: a row for each that is admitted.
+/// A table of `N` rows by number, some of them empty.
 #[derive(Drop)]
-pub struct Members {
-    pub(crate) rows: [Option<Member>; MEMBERS],
+pub struct Table<R, const N: usize> {
+    pub(crate) rows: [Option<R>; N],
 }
 
-/// The table of instruments: a row for each that is defined.
-#[derive(Drop)]
-pub struct Instruments {
-    pub(crate) rows: [Option<Instrument>; INSTRUMENTS],
-}
+/// A row for each member that is admitted.
+pub type Members = Table<Member, MEMBERS>;
+
+/// A row for each instrument that is defined.
+pub type Instruments = Table<Instrument, INSTRUMENTS>;
 
 /// A venue over a margin keeper.
 #[derive(Drop)]

@@ -57,7 +57,7 @@ impl Book {
     pub fn first(&self, side: Side, instrument: u8) -> Option<Order>
         ensures { result ≡ first_of (rows_of self.now side instrument) }
     {
-        first_in(self.entries.as_slice(), side, instrument)
+        first_in(&self.entries, side, instrument)
     }
 
     /// Takes lots from the first order of one side of an instrument. An order with no lots left leaves the book.
@@ -70,7 +70,7 @@ impl Book {
     fn fill_first(&mut self, side: Side, instrument: u8, lots: u16)
         ensures { rows_of self.new ≡ put_row (rows_of self.old) side instrument (first_filled lots (rows_of self.old side instrument)) }
     {
-        if let Some(place) = find(self.entries.as_slice(), side, instrument) {
+        if let Some(place) = find(&self.entries, side, instrument) {
             self.fill_at(place, lots);
         }
     }
@@ -79,8 +79,8 @@ impl Book {
         requires { place < length (entries_of self.old) }
         ensures { entries_of self.new ≡ filled_at place lots (entries_of self.old) }
     {
-        if lots < self.entries.as_slice()[place].order.lots {
-            self.entries.as_mut_slice()[place].order.lots -= lots;
+        if lots < self.entries[place].order.lots {
+            self.entries[place].order.lots -= lots;
         } else {
             self.entries.remove(place);
         }

@@ -27,7 +27,7 @@ impl Book {
         ensures value { result ≡ part_lots part (rows_of self.now) member }
         ensures few { result ≤ 65535 * 256 }
     {
-        sum_lots(self.entries.as_slice(), &part, member)
+        sum_lots(&self.entries, &part, member)
     }
 }
 

@@ -19,7 +19,7 @@ impl Book {
     pub fn has(&self, picked: &Picked) -> bool
         ensures { result ≡ not (length (filter (picks picked.now) (pending_orders (rows_of self.now))) == 0) }
     {
-        any(self.entries.as_slice(), picked)
+        any(&self.entries, picked)
     }
 
     /// Takes out the orders that are picked, lowest number first.
@@ -35,7 +35,7 @@ impl Book {
     fn picked(&self, picked: &Picked) -> Taken
         ensures { taken_orders result ≡ picked_orders (picks picked.now) (rows_of self.now) }
     {
-        collect(self.entries.as_slice(), picked)
+        collect(&self.entries, picked)
     }
 
     fn leave_out(&mut self, picked: &Picked)
@@ -85,19 +85,19 @@ impl Taken {
         ensures answer { result ≡ (if nat_le (from + length (taken_orders self.now)) (length events.old) then Some (from + length (taken_orders self.now)) else None) }
         ensures after { events.new ≡ (if nat_le (from + length (taken_orders self.now)) (length events.old) then take from events.old ++ (map (cancelled reason) (taken_orders self.now) ++ drop (from + length (taken_orders self.now)) events.old) else events.old) }
     {
-        let count = self.count();
-        if events.len() < count || events.len() - count < from {
+        let to = from.checked_add(self.count())?;
+        if to > events.len() {
             return None;
         }
         self.tell_all(reason, events, from);
-        Some(from + count)
+        Some(to)
     }
 
     fn tell_all(&self, reason: Reason, events: &mut [Event], from: usize)
         requires { from + length (taken_orders self.now) ≤ length events.old }
         ensures { Wrote events.old events.new from (from + length (taken_orders self.now)) (map (cancelled reason) (taken_orders self.now)) }
     {
-        for (i, leaving) in self.orders.as_slice().iter().enumerate() {
+        for (i, leaving) in self.orders.iter().enumerate() {
             events[from + i] = cancelled(reason, leaving);
         }
     }

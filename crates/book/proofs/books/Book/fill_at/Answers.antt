@@ -1,4 +1,4 @@
-use Rattle.std.proofs.Common.{◌-◌, ◌++◌, get_or, take, drop, set, sym, ap, ◌∙◌, add-one, length-set}
+use Rattle.std.proofs.Common.{◌-◌, ◌++◌, get_or, take, drop, set, length, sym, ap, ◌∙◌, add-one, length-set}
 use Rattle.arrayvec.proofs.ArrayVecLemmas.{items-with_items}
 use Rattle.book.specs.declared.entry.Entry.{Entry}
 use Rattle.book.specs.Reads.{blank_entry, entries_of, entry_with_lots}
@@ -13,12 +13,12 @@ invariant_of-self-clause-standing c =
     let entries = entries_of book in
     let lots = (get_or entries c.args.place blank_entry).order.lots - c.args.lots in
     ap stands
-      (items-with_items book.entries _ (length-set _ _ _ ∙ ap Rattle.std.proofs.Common.length c.as_mut_slice.ensures.value)
-      ∙ ap (λ ys. set ys c.args.place (entry_with_lots (get_or ys c.args.place blank_entry) ((get_or ys c.args.place blank_entry).order.lots - c.args.lots))) c.as_mut_slice.ensures.value)
+      (items-with_items book.entries _ (length-set _ _ _ ∙ ap length c.deref_mut.ensures.value)
+      ∙ ap (λ ys. set ys c.args.place (entry_with_lots (get_or ys c.args.place blank_entry) ((get_or ys c.args.place blank_entry).order.lots - c.args.lots))) c.deref_mut.ensures.value)
     ∙ stands_from _ (stands_set_lots entries c.args.place lots blank_entry (book_stands book))
 
-pub invariant_of-self-else-lots-as_slice-clause-standing : goal.invariant_of-self-else-lots-as_slice-clause-standing
-invariant_of-self-else-lots-as_slice-clause-standing c =
+pub invariant_of-self-else-lots-deref-clause-standing : goal.invariant_of-self-else-lots-deref-clause-standing
+invariant_of-self-else-lots-deref-clause-standing c =
     let book = c.args.self.now in
     let entries = entries_of book in
     ap stands (c.remove.ensures.items ∙ ap (λ n. take c.args.place entries ++ drop n entries) (sym (add-one c.args.place)))

@@ -7,5 +7,5 @@ use Rattle.book.proofs.books.Book.picked.Goals as goal
 
 pub returns : goal.returns
 returns c =
-    let entries = c.as_slice.ensures.value in
+    let entries = c.deref.ensures.0 in
     c.collect.ensures ∙ ap (λ z. by_number (filter (picks c.args.picked.now) z)) (ap (map order_of) entries ∙ sym (book_pending c.args.self.now))

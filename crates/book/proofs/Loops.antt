@@ -1,5 +1,5 @@
 -- What one turn of each loop over the entries adds.
-use Rattle.std.proofs.Common.{◌≡◌, ℕ, ◌+◌, ◌-◌, ◌<◌, ◌≤◌, Bool, true, false, cond, not, ◌&&◌, ◌||◌, eqb, List, [], ◌∷◌, ◌++◌, map, reverse, Option, length, get_or, take, drop, set, pos, sum_by, filter, sym, refl, ap, ◌∙◌, subst, arith}
+use Rattle.std.proofs.Common.{◌≡◌, ℕ, ◌+◌, ◌-◌, ◌<◌, ◌≤◌, Bool, true, false, cond, not, ◌&&◌, ◌||◌, eqb, List, [], ◌∷◌, ◌++◌, map, reverse, Option, length, get_or, take, drop, set, sum_by, filter, sym, refl, ap, ◌∙◌, subst, arith}
 use Rattle.std.specs.List.{list_any, fold}
 use Rattle.std.specs.Iterator.Runs.{WholeRun, EachRunFrom}
 use Rattle.std.proofs.lemmas.List.Elements.{filter-append, filter_more}

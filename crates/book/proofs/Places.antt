@@ -15,7 +15,7 @@ use Rattle.book.specs.declared.books.Book.{Book}
 use Rattle.book.specs.declared.entry.Entry.{Entry}
 use Rattle.book.specs.Reads.{order_of, entries_of, rows_in, rows_of, stands_at, first_of, first_filled, blank_entry, entry_with_lots, filled_at}
 use Rattle.book.proofs.Standing.{Stands, stands_says}
-use Rattle.book.proofs.Rows.{pending_entries, row_at_first, rows_part_filled, rows_whole_filled}
+use Rattle.book.proofs.Rows.{pending_entries, rows_part_filled, rows_whole_filled}
 
 pub length_inserted : {X : Type 0} (before : X → X → Bool) (e : X) (xs : List X) → length (inserted before e xs) ≡ length xs + 1
 length_inserted before e [] = refl

@@ -55,6 +55,7 @@ fn list_side(
     let mut place = from;
     for entry in entries {
         if is_at(entry, side, instrument) {
+            // By place, since a zip with `iter_mut` leaves a proof without what it wrote.
             list[place] = listed(side, entry);
             place += 1;
         }

@@ -97,6 +97,7 @@ impl Taken {
         requires { from + length (taken_orders self.now) ≤ length events.old }
         ensures { Wrote events.old events.new from (from + length (taken_orders self.now)) (map (cancelled reason) (taken_orders self.now)) }
     {
+        // By place, since a zip with `iter_mut` leaves a proof without what it wrote.
         for (i, leaving) in self.orders.iter().enumerate() {
             events[from + i] = cancelled(reason, leaving);
         }

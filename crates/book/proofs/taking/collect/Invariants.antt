@@ -8,5 +8,5 @@ use Rattle.book.proofs.taking.collect.Given as goal
 abbrev pub invariant-loop-entry : goal.invariant-loop-entry
 invariant-loop-entry l = record {
   collected : map leaving_order l.orders.items ≡ by_number (filter (picks l.picked) (drop (length l.entries - length l.yielded) (map order_of l.entries)));
-  few : length l.orders.items ≤ length l.yielded
+  few : length l.orders.items ≤ length l.yielded;
 }

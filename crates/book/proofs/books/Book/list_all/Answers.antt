@@ -1,10 +1,10 @@
-use Rattle.std.proofs.Common.{◌≡◌, ◌-◌, ◌+◌, ◌≤◌, ◌++◌, map, length, drop, ap, ◌∙◌, arith, subst}
+use Rattle.std.proofs.Common.{◌≡◌, ◌-◌, ◌++◌, map, length, drop, ap, ◌∙◌, arith, subst}
 use lib.ListN.{length-map}
 use Rattle.terms.specs.declared.Side.TheVariants.{Bid, Offer}
 use Rattle.market.specs.Markets.{listed}
 use Rattle.market.specs.Lists.{Wrote}
 use Rattle.market.proofs.Lists.{wrote_both, wrote_length}
-use Rattle.book.specs.Reads.{entries_of, rows_in, rows_of, listing_in}
+use Rattle.book.specs.Reads.{rows_in, rows_of, listing_in}
 use Rattle.book.proofs.Loops.{both_rows}
 use Rattle.book.proofs.books.Book.list_all.Goals as goal
 

@@ -22,10 +22,10 @@ length_inserted before e [] = refl
 length_inserted before e (x ∷ xs) = cond_both (before e x) (e ∷ (x ∷ xs)) (x ∷ inserted before e xs) (λ z. length z ≡ length (x ∷ xs) + 1) (λ _. omega arith) (λ _. omega (arith, length_inserted before e xs))
 
 -- A list around one of its places.
-pub around : {X : Type 0} (place : ℕ) (xs : List X) (d : X) → place < length xs → xs ≡ take place xs ++ (get_or xs place d ∷ drop (place + 1) xs)
+around : {X : Type 0} (place : ℕ) (xs : List X) (d : X) → place < length xs → xs ≡ take place xs ++ (get_or xs place d ∷ drop (place + 1) xs)
 around place xs d l = sym (take-append-drop place xs) ∙ ap (λ z. take place xs ++ z) (drop_more xs place d l)
 
-pub set_around : {X : Type 0} (place : ℕ) (xs : List X) (x : X) → place < length xs → set xs place x ≡ take place xs ++ (x ∷ drop (place + 1) xs)
+set_around : {X : Type 0} (place : ℕ) (xs : List X) (x : X) → place < length xs → set xs place x ≡ take place xs ++ (x ∷ drop (place + 1) xs)
 set_around place xs x l = set_split xs place x l ∙ ap (λ n. take place xs ++ (x ∷ drop n xs)) (sym (add-one place))
 
 -- ---- a whole book

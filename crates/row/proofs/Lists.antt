@@ -1,5 +1,5 @@
 -- A row with one entry put in or taken out.
-use Rattle.std.proofs.Common.{◌≡◌, ℕ, ◌+◌, ◌-◌, ◌<◌, ◌≤◌, Bool, true, false, cond, not, List, [], ◌∷◌, ◌++◌, length, take, drop, set, refl, sym, ap, ◌∙◌, arith, add-one}
+use Rattle.std.proofs.Common.{◌≡◌, ℕ, ◌+◌, ◌-◌, ◌<◌, ◌≤◌, Bool, true, false, cond, not, List, [], ◌∷◌, ◌++◌, length, take, drop, set, refl, sym, ap, ◌∙◌, arith, one-add}
 use Rattle.std.proofs.lemmas.List.{length-drop, length-take-le, length_push, take_more_set, take-take, drop-take, take_all, take_at, drop_at, drop-append-le, drop-set-lt, take-set-le}
 use Rattle.std.proofs.lemmas.Slice.{put_mid-paste}
 use Rattle.std.proofs.lemmas.Grind.{common_steps}
@@ -15,7 +15,7 @@ inserted_at_first {X} test e (x ∷ xs) = go (test e x) (inserted_at_first test 
   where
     go : (b : Bool) → inserted test e xs ≡ take (position_or_len (test e) xs) xs ++ e ∷ drop (position_or_len (test e) xs) xs → cond b (e ∷ x ∷ xs) (x ∷ inserted test e xs) ≡ take (cond (not b) (1 + position_or_len (test e) xs) 0) (x ∷ xs) ++ e ∷ drop (cond (not b) (1 + position_or_len (test e) xs) 0) (x ∷ xs)
     go true others = refl
-    go false others = rw (Rattle.std.proofs.Common.one-add) (ap (λ ys. x ∷ ys) others)
+    go false others = rw one-add (ap (λ ys. x ∷ ys) others)
 
 -- An entry written behind the entries from a place on, and the part from there turned by one.
 pub opened : {X : Type 0} (xs : List X) (at end : ℕ) (e : X) (part : List X) → at < end → end ≤ length xs → part ≡ drop (length (take (end - at) (drop at (set xs (end - 1) e))) - 1) (take (end - at) (drop at (set xs (end - 1) e))) ++ take (length (take (end - at) (drop at (set xs (end - 1) e))) - 1) (take (end - at) (drop at (set xs (end - 1) e))) → put_mid at (end - at) (set xs (end - 1) e) part ≡ (take at xs ++ e ∷ drop at (take (end - 1) xs)) ++ drop end xs

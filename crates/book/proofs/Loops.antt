@@ -1,31 +1,32 @@
 -- What one turn of each loop over the entries adds.
-use Rattle.std.proofs.Common.{◌≡◌, ℕ, zero, suc, ◌+◌, ◌-◌, ◌<◌, ◌≤◌, Bool, true, false, cond, not, ◌&&◌, eqb, List, [], ◌∷◌, ◌++◌, map, length, get_or, take, drop, set, pos, sum_by, filter, sym, refl, ap, ◌∙◌, subst, arith}
+use Rattle.std.proofs.Common.{◌≡◌, ℕ, ◌+◌, ◌-◌, ◌<◌, ◌≤◌, Bool, true, false, cond, not, ◌&&◌, ◌||◌, eqb, List, [], ◌∷◌, ◌++◌, map, reverse, Option, length, get_or, take, drop, set, sum_by, filter, sym, refl, ap, ◌∙◌, subst, arith}
+use Rattle.std.specs.List.{list_any, fold}
+use Rattle.std.specs.Iterator.Runs.{WholeRun, EachRunFrom}
 use Rattle.std.proofs.lemmas.List.Elements.{filter-append, filter_more}
-use Rattle.std.proofs.lemmas.List.{map-append, map_more, length-map, drop_more, get_or-map, get_or-take, length-take-le, drop_all, append-nil, length-append, take-append-drop, take-take}
+use Rattle.std.proofs.lemmas.List.{map-append, map_more, length-map, drop_more, get_or-map, get_or-reverse, drop_all, append-nil, length-append, take-append-drop}
 use Rattle.std.proofs.lemmas.List.Sums.{sum_by-cons}
-use Rattle.std.proofs.lemmas.Bool.{cond_both, cond-true, cond-false, ne_eqb, not_from_false}
+use Rattle.std.proofs.lemmas.Bool.{cond-true, cond-false, ne_eqb, not_from_false}
 use Rattle.terms.specs.declared.Order.{Order}
 use Rattle.terms.specs.declared.Side.{Side}
 use Rattle.terms.specs.declared.Side.TheVariants.{Bid, Offer}
 use Rattle.terms.specs.Sides.{same_side}
-use Rattle.row.specs.Rows.{inserted, after_insert}
+use Rattle.row.specs.Rows.{inserted}
 use Rattle.market.specs.declared.events.Event.{Event}
 use Rattle.market.specs.declared.events.Reason.{Reason}
 use Rattle.market.specs.declared.orders.Listed.{Listed}
 use Rattle.market.specs.Lists.{Wrote}
-use Rattle.market.specs.Markets.{listed, sum_over, is_of, lots_of}
+use Rattle.market.specs.Markets.{listed, sum_over, is_of, lots_of, pending_orders}
 use Rattle.market.specs.Cancels.{cancelled, by_number, has_lower_number}
 use Rattle.market.proofs.Lists.{wrote_one, wrote_both}
 use Rattle.market.proofs.Weights.{sum_over_pending}
 use Rattle.book.specs.declared.books.Book.{Book}
-use Rattle.book.specs.declared.books.Taken.{Taken}
 use Rattle.book.specs.declared.entry.Entry.{Entry}
 use Rattle.book.specs.declared.entry.Leaving.{Leaving}
 use Rattle.book.specs.declared.part.Part.{Part}
 use Rattle.book.specs.declared.part.Part.TheVariants.{Whole, Instrument, Row}
 use Rattle.book.specs.Parts.{counted_lots, part_lots}
-use Rattle.book.specs.Reads.{order_of, leaving_order, taken_orders, stands_at, rows_in, rows_of, entries_of}
-use Rattle.book.proofs.Places.{take_inserted, entries_length, book_pending}
+use Rattle.book.specs.Reads.{order_of, leaving_order, stands_at, rows_in, rows_of, entries_of}
+use Rattle.book.proofs.Places.{book_pending}
 
 -- ---- lots of a part
 
@@ -67,18 +68,19 @@ part_lots_are book (Row side i) m = row_lots side i m (entries_of book)
 
 -- ---- an order that is picked
 
-pub some_picked : (p : Order → Bool) (xs : List Entry) (i : ℕ) (d : Entry) → i < length xs → p (order_of (get_or xs i d)) ≡ true → 0 < length (filter p (map order_of xs))
-some_picked p [] i d l h = absurd (omega arith)
-some_picked p (x ∷ xs) zero d l h = cond_both (p (order_of x)) (order_of x ∷ filter p (map order_of xs)) (filter p (map order_of xs)) (λ z. 0 < length z) (λ _. omega arith) (λ e. absurd (Rattle.std.proofs.lemmas.Bool.both_ways (p (order_of x)) e h))
-some_picked p (x ∷ xs) (suc i) d l h = let others = some_picked p xs i d (omega arith) h in cond_both (p (order_of x)) (order_of x ∷ filter p (map order_of xs)) (filter p (map order_of xs)) (λ z. 0 < length z) (λ _. omega arith) (λ _. others)
-
-pub picked_test : (n : ℕ) → 0 < n → true ≡ not (eqb n 0)
+picked_test : (n : ℕ) → 0 < n → true ≡ not (eqb n 0)
 picked_test n l = sym (not_from_false (eqb n 0) (ne_eqb n 0 (λ e. omega arith)))
 
-pub not_picked_more : (p : Order → Bool) (xs : List Entry) (i : ℕ) (d : Entry) → i < length xs → filter p (map order_of (take i xs)) ≡ [] → p (order_of (get_or xs i d)) ≡ false → filter p (map order_of (take (i + 1) xs)) ≡ []
-not_picked_more p xs i d l before h =
-    ap (filter p) (map_more order_of xs i d l) ∙ filter-append p (map order_of (take i xs)) (order_of (get_or xs i d) ∷ [])
-    ∙ (let here = cond-false (p (order_of (get_or xs i d))) (order_of (get_or xs i d) ∷ []) [] h in λ k. before k ++ here k)
+any_picked : (p : Order → Bool) (xs : List Entry) → list_any (λ e. p (order_of e)) xs ≡ not (eqb (length (filter p (map order_of xs))) 0)
+any_picked p [] = refl
+any_picked p (x ∷ xs) = go (p (order_of x)) (any_picked p xs)
+  where
+    go : (b : Bool) → list_any (λ e. p (order_of e)) xs ≡ not (eqb (length (filter p (map order_of xs))) 0) → (b || list_any (λ e. p (order_of e)) xs) ≡ not (eqb (length (cond b (order_of x ∷ filter p (map order_of xs)) (filter p (map order_of xs)))) 0)
+    go true others = picked_test _ (omega arith)
+    go false others = others
+
+pub any_pending : (p : Order → Bool) (book : Book) → not (eqb (length (filter p (pending_orders (rows_of book)))) 0) ≡ list_any (λ e. p (order_of e)) book.entries.items
+any_pending p book = ap (λ z. not (eqb (length (filter p z)) 0)) (book_pending book) ∙ sym (any_picked p (entries_of book))
 
 -- ---- orders that leave, by number
 
@@ -90,28 +92,27 @@ map_inserted e (x ∷ xs) = go (has_lower_number (leaving_order e) (leaving_orde
     go true others = refl
     go false others = ap (λ ys. leaving_order x ∷ ys) others
 
-module _ (p : Order → Bool) (xs : List Entry) (n i : ℕ) (d : Entry) (l : i < n) (m : n ≤ length xs) where
-  -- The order before those passed.
-  next : drop (n - (i + 1)) (map order_of (take n xs)) ≡ order_of (get_or xs (n - 1 - i) d) ∷ drop (n - i) (map order_of (take n xs))
+-- One more of the orders, from the last to the first.
+module _ (p : Order → Bool) (xs : List Entry) (i : ℕ) (x : Entry) (l : i < length xs) (is : x ≡ get_or (reverse xs) i x) where
+  next : drop (length xs - (i + 1)) (map order_of xs) ≡ order_of x ∷ drop (length xs - i) (map order_of xs)
   next =
-      let long = length-map (take n xs) order_of in
-      let short = length-take-le n xs m in
-      let same : n - (i + 1) ≡ n - 1 - i = omega arith in
-      let after : n - 1 - i + 1 ≡ n - i = omega arith in
-      ap (λ k. drop k (map order_of (take n xs))) same
-      ∙ drop_more (map order_of (take n xs)) (n - 1 - i) (order_of d) (omega arith)
-      ∙ (let here = get_or-map order_of (take n xs) (n - 1 - i) d (order_of d) (omega arith) ∙ ap order_of (get_or-take n xs (n - 1 - i) d (omega arith)) in λ k. here k ∷ drop (after k) (map order_of (take n xs)))
+      let long = length-map xs order_of in
+      let same : length xs - (i + 1) ≡ length xs - 1 - i = omega arith in
+      let after : length xs - 1 - i + 1 ≡ length xs - i = omega arith in
+      ap (λ k. drop k (map order_of xs)) same
+      ∙ drop_more (map order_of xs) (length xs - 1 - i) (order_of x) (omega arith)
+      ∙ (let here = get_or-map order_of xs (length xs - 1 - i) x (order_of x) (omega arith) ∙ ap order_of (sym (get_or-reverse xs i x l) ∙ sym is) in λ k. here k ∷ drop (after k) (map order_of xs))
 
-  pub not_collected : (all : List Order) → all ≡ by_number (filter p (drop (n - i) (map order_of (take n xs)))) → p (order_of (get_or xs (n - 1 - i) d)) ≡ false → all ≡ by_number (filter p (drop (n - (i + 1)) (map order_of (take n xs))))
-  not_collected all before h = before ∙ sym (ap (λ z. by_number (filter p z)) next ∙ ap by_number (cond-false (p (order_of (get_or xs (n - 1 - i) d))) _ _ h))
+  pub not_collected : (all : List Order) → all ≡ by_number (filter p (drop (length xs - i) (map order_of xs))) → p (order_of x) ≡ false → all ≡ by_number (filter p (drop (length xs - (i + 1)) (map order_of xs)))
+  not_collected all before h = before ∙ sym (ap (λ z. by_number (filter p z)) next ∙ ap by_number (cond-false (p (order_of x)) _ _ h))
 
-  pub collected : (count : ℕ) (held after : List Leaving) → count < length held → map leaving_order (take count held) ≡ by_number (filter p (drop (n - i) (map order_of (take n xs)))) → p (order_of (get_or xs (n - 1 - i) d)) ≡ true → after ≡ after_insert (λ a b. has_lower_number (leaving_order a) (leaving_order b)) count (record { 0 = order_of (get_or xs (n - 1 - i) d) }) held → map leaving_order (take (count + 1) after) ≡ by_number (filter p (drop (n - (i + 1)) (map order_of (take n xs))))
+  pub collected : (held after : List Leaving) → map leaving_order held ≡ by_number (filter p (drop (length xs - i) (map order_of xs))) → p (order_of x) ≡ true → after ≡ inserted (λ a b. has_lower_number (leaving_order a) (leaving_order b)) (record { 0 = order_of x }) held → map leaving_order after ≡ by_number (filter p (drop (length xs - (i + 1)) (map order_of xs)))
   unfolding by_number
-  collected count held after room before h is =
-      ap (λ z. map leaving_order z) (take_inserted (λ a b. has_lower_number (leaving_order a) (leaving_order b)) count (record { 0 = order_of (get_or xs (n - 1 - i) d) }) held after room is)
-      ∙ map_inserted (record { 0 = order_of (get_or xs (n - 1 - i) d) }) (take count held)
-      ∙ ap (inserted has_lower_number (order_of (get_or xs (n - 1 - i) d))) before
-      ∙ sym (ap (λ z. by_number (filter p z)) next ∙ ap by_number (cond-true (p (order_of (get_or xs (n - 1 - i) d))) _ _ h))
+  collected held after before h put =
+      ap (λ z. map leaving_order z) put
+      ∙ map_inserted (record { 0 = order_of x }) held
+      ∙ ap (inserted has_lower_number (order_of x)) before
+      ∙ sym (ap (λ z. by_number (filter p z)) next ∙ ap by_number (cond-true (p (order_of x)) _ _ h))
 
 pub none_collected : (p : Order → Bool) (xs : List Order) (n : ℕ) → length xs ≤ n → [] ≡ by_number (filter p (drop n xs))
 unfolding by_number
@@ -120,22 +121,17 @@ none_collected p xs n l = sym (ap (λ z. by_number (filter p z)) (drop_all n xs 
 -- ---- what is written
 
 -- One more event told.
-pub tell_more : (reason : Reason) (taken : Taken) (old events : List Event) (from i : ℕ) (event : Event) → i < taken.count → from + i < length events → event ≡ cancelled reason (get_or taken.orders i (record { 0 = record { rate = pos 0; number = 0; member = 0; lots = 0 } })).0 → Wrote old events from (from + i) (map (cancelled reason) (take i (taken_orders taken))) → Wrote old (set events (from + i) event) from (from + (i + 1)) (map (cancelled reason) (take (i + 1) (taken_orders taken)))
-tell_more reason taken old events from i event l room is w =
-    subst (λ to. Wrote old (set events (from + i) event) from to (map (cancelled reason) (take (i + 1) (taken_orders taken)))) (omega arith)
+pub tell_more : (reason : Reason) (read taken : List Leaving) (old events : List Event) (from i : ℕ) (d : Leaving) (event : Event) → read ≡ taken → i < length read → from + i < length events → event ≡ cancelled reason (leaving_order (get_or read i d)) → Wrote old events from (from + i) (map (cancelled reason) (map leaving_order (take i taken))) → Wrote old (set events (from + i) event) from (from + (i + 1)) (map (cancelled reason) (map leaving_order (take (i + 1) taken)))
+tell_more reason read taken old events from i d event same l room is w =
+    subst (λ to. Wrote old (set events (from + i) event) from to (map (cancelled reason) (map leaving_order (take (i + 1) taken)))) (omega arith)
     (subst (λ items. Wrote old (set events (from + i) event) from (from + i + 1) items) (sym more)
-    (wrote_both old events (set events (from + i) event) from (from + i) (from + i + 1) (map (cancelled reason) (take i (taken_orders taken))) (event ∷ []) w (wrote_one events (from + i) event room)))
+    (wrote_both old events (set events (from + i) event) from (from + i) (from + i + 1) (map (cancelled reason) (map leaving_order (take i taken))) (event ∷ []) w (wrote_one events (from + i) event room)))
   where
-    inside : i < length (take taken.count taken.orders)
-    inside = let s = taken.size in let r = taken.room in let t = length-take-le taken.count taken.orders (omega arith) in omega arith
-
-    order : get_or (taken_orders taken) i (leaving_order (record { 0 = record { rate = pos 0; number = 0; member = 0; lots = 0 } })) ≡ (get_or taken.orders i (record { 0 = record { rate = pos 0; number = 0; member = 0; lots = 0 } })).0
-    order = get_or-map leaving_order (take taken.count taken.orders) i (record { 0 = record { rate = pos 0; number = 0; member = 0; lots = 0 } }) _ inside ∙ ap leaving_order (get_or-take taken.count taken.orders i (record { 0 = record { rate = pos 0; number = 0; member = 0; lots = 0 } }) l)
-
-    more : map (cancelled reason) (take (i + 1) (taken_orders taken)) ≡ map (cancelled reason) (take i (taken_orders taken)) ++ (event ∷ [])
+    more : map (cancelled reason) (map leaving_order (take (i + 1) taken)) ≡ map (cancelled reason) (map leaving_order (take i taken)) ++ (event ∷ [])
     more =
-        map_more (cancelled reason) (taken_orders taken) i (leaving_order (record { 0 = record { rate = pos 0; number = 0; member = 0; lots = 0 } })) (let t = length-map (take taken.count taken.orders) leaving_order in omega (arith, inside))
-        ∙ ap (λ e. map (cancelled reason) (take i (taken_orders taken)) ++ (e ∷ [])) (ap (cancelled reason) order ∙ sym is)
+        ap (map (cancelled reason)) (map_more leaving_order taken i d (subst (λ ys. i < length ys) same l))
+        ∙ map-append (cancelled reason) (map leaving_order (take i taken)) (leaving_order (get_or taken i d) ∷ [])
+        ∙ ap (λ e. map (cancelled reason) (map leaving_order (take i taken)) ++ (e ∷ [])) (sym (is ∙ ap (λ ys. cancelled reason (leaving_order (get_or ys i d))) same))
 
 -- One more order listed, or passed over.
 module _ (side : Side) (i : ℕ) (xs : List Entry) (k : ℕ) (d : Entry) (l : k < length xs) where
@@ -154,13 +150,12 @@ module _ (side : Side) (i : ℕ) (xs : List Entry) (k : ℕ) (d : Entry) (l : k 
       (sym (ap (λ z. map (listed side) z) (listed_row h) ∙ map-append (listed side) (rows_in (take k xs) side i) (order_of (get_or xs k d) ∷ []) ∙ ap (λ e. map (listed side) (rows_in (take k xs) side i) ++ (e ∷ [])) (sym is)))
       (wrote_both old list (set list place item) from place (place + 1) (map (listed side) (rows_in (take k xs) side i)) (item ∷ []) w (wrote_one list place item room))
 
--- A row of the first entries is no longer than one of more entries.
-pub rows_length : (side : Side) (i : ℕ) (xs : List Entry) (k n : ℕ) → k ≤ n → length (rows_in (take k xs) side i) ≤ length (rows_in (take n xs) side i)
-rows_length side i xs k n l =
-    let parts = sym (take-append-drop k (take n xs)) ∙ ap (λ z. z ++ drop k (take n xs)) (take-take k n xs l) in
-    let whole = ap (λ z. length (rows_in z side i)) parts in
-    let split = ap length (ap (λ z. map order_of z) (filter-append (stands_at side i) (take k xs) (drop k (take n xs))) ∙ map-append order_of (filter (stands_at side i) (take k xs)) (filter (stands_at side i) (drop k (take n xs)))) in
-    let sum = length-append (rows_in (take k xs) side i) (rows_in (drop k (take n xs)) side i) in
+-- A row of the first entries is no longer than one of all.
+pub rows_length : (side : Side) (i : ℕ) (xs : List Entry) (k : ℕ) → length (rows_in (take k xs) side i) ≤ length (rows_in xs side i)
+rows_length side i xs k =
+    let whole = ap (λ z. length (rows_in z side i)) (sym (take-append-drop k xs)) in
+    let split = ap length (ap (λ z. map order_of z) (filter-append (stands_at side i) (take k xs) (drop k xs)) ∙ map-append order_of (filter (stands_at side i) (take k xs)) (filter (stands_at side i) (drop k xs))) in
+    let sum = length-append (rows_in (take k xs) side i) (rows_in (drop k xs) side i) in
     omega arith
 
 sides_length : (i : ℕ) (xs : List Entry) → length (filter (stands_at Bid i) xs) + length (filter (stands_at Offer i) xs) ≤ length xs
@@ -174,8 +169,12 @@ sides_length i (x ∷ xs) = go x.side (eqb i x.instrument) (sides_length i xs)
     go Offer false others = omega arith
 
 -- The two rows of an instrument are no more than all entries.
-pub both_rows : (book : Book) (i : ℕ) → length (rows_of book Bid i) + length (rows_of book Offer i) ≤ book.count
-both_rows book i =
-    let bids = length-map (filter (stands_at Bid i) (entries_of book)) order_of in
-    let offers = length-map (filter (stands_at Offer i) (entries_of book)) order_of in
-    omega (arith, sides_length i (entries_of book), entries_length book)
+pub both_rows : (xs : List Entry) (i : ℕ) → length (rows_in xs Bid i) + length (rows_in xs Offer i) ≤ length xs
+both_rows xs i =
+    let bids = length-map (filter (stands_at Bid i) xs) order_of in
+    let offers = length-map (filter (stands_at Offer i) xs) order_of in
+    omega (arith, sides_length i xs)
+
+-- A sum of what an iterator gives, where each of its runs stays below a bound.
+pub sum_below : {S : Type 0} {steps : S → Option ℕ → S → Type 0} {s : S} (r top : ℕ) → WholeRun steps s (λ p. r ≡ fold (λ a x. a + x) 0 p.items) → EachRunFrom steps s (λ p. fold (λ a x. a + x) 0 p.items < top) → r < top
+sum_below r top run each = let below = each run.0 run.0.seen run.1 in omega (arith, run.3)

@@ -19,8 +19,8 @@ use Rattle.market.specs.Cancels.{rows_without}
 use Rattle.market.proofs.Sums.{eqb_swap}
 use Rattle.book.specs.declared.entry.Entry.{Entry}
 use Rattle.book.specs.Entries.{precedes, precedes_by_side}
-use Rattle.book.specs.Reads.{order_of, stands_at, rows_in, first_filled}
-use Rattle.book.proofs.Standing.{Ordered, Stands, with_lots}
+use Rattle.book.specs.Reads.{order_of, stands_at, rows_in, first_filled, entry_with_lots}
+use Rattle.book.proofs.Standing.{Ordered, Stands}
 
 -- ---- filters
 
@@ -46,14 +46,6 @@ kept_orders at p (x ∷ xs) = go (p (order_of x)) (at x) refl refl (kept_orders 
 -- The orders that a test picks leave the rows.
 pub rows_kept : (picked : Order → Bool) (xs : List Entry) → rows_in (filter (λ x. not (picked (order_of x))) xs) ≡ rows_without picked (rows_in xs)
 rows_kept picked xs = fun_ext (λ side. fun_ext (λ i. kept_orders (stands_at side i) (λ o. not (picked o)) xs))
-
-pub picked_entries : (picked : Order → Bool) (xs : List Entry) → map order_of (filter (λ x. picked (order_of x)) xs) ≡ filter picked (map order_of xs)
-picked_entries picked [] = refl
-picked_entries picked (x ∷ xs) = go (picked (order_of x)) (picked_entries picked xs)
-  where
-    go : (b : Bool) → map order_of (filter (λ x. picked (order_of x)) xs) ≡ filter picked (map order_of xs) → map order_of (cond b (x ∷ filter (λ x. picked (order_of x)) xs) (filter (λ x. picked (order_of x)) xs)) ≡ cond b (order_of x ∷ filter picked (map order_of xs)) (filter picked (map order_of xs))
-    go true others = ap (λ ys. order_of x ∷ ys) others
-    go false others = others
 
 -- ---- one row changed
 
@@ -240,8 +232,8 @@ module _ (side : Side) (i : ℕ) (before : List Entry) (e : Entry) (behind : Lis
   elsewhere_same : (t : Side) (j : ℕ) → stands_at t j e ≡ false → rows_in (before ++ behind) t j ≡ rows_in (before ++ (e ∷ behind)) t j
   elsewhere_same t j ne = ap (λ z. map order_of z) (filter-append (stands_at t j) before behind ∙ sym (filter-append (stands_at t j) before (e ∷ behind) ∙ ap (λ z. filter (stands_at t j) before ++ z) (cond-false (stands_at t j e) (e ∷ filter (stands_at t j) behind) _ ne)))
 
-  elsewhere_lots : (lots : ℕ) (t : Side) (j : ℕ) → stands_at t j e ≡ false → rows_in (before ++ (with_lots e lots ∷ behind)) t j ≡ rows_in (before ++ (e ∷ behind)) t j
-  elsewhere_lots lots t j ne = ap (λ z. map order_of z) (filter-append (stands_at t j) before (with_lots e lots ∷ behind) ∙ ap (λ z. filter (stands_at t j) before ++ z) (cond-false (stands_at t j e) (with_lots e lots ∷ filter (stands_at t j) behind) _ ne ∙ sym (cond-false (stands_at t j e) (e ∷ filter (stands_at t j) behind) _ ne)) ∙ sym (filter-append (stands_at t j) before (e ∷ behind)))
+  elsewhere_lots : (lots : ℕ) (t : Side) (j : ℕ) → stands_at t j e ≡ false → rows_in (before ++ (entry_with_lots e lots ∷ behind)) t j ≡ rows_in (before ++ (e ∷ behind)) t j
+  elsewhere_lots lots t j ne = ap (λ z. map order_of z) (filter-append (stands_at t j) before (entry_with_lots e lots ∷ behind) ∙ ap (λ z. filter (stands_at t j) before ++ z) (cond-false (stands_at t j e) (entry_with_lots e lots ∷ filter (stands_at t j) behind) _ ne ∙ sym (cond-false (stands_at t j e) (e ∷ filter (stands_at t j) behind) _ ne)) ∙ sym (filter-append (stands_at t j) before (e ∷ behind)))
 
   its_place : (same_side side e.side ≡ true) × (eqb i e.instrument ≡ true)
   its_place = and_parts (same_side side e.side) (eqb i e.instrument) there
@@ -255,10 +247,10 @@ module _ (side : Side) (i : ℕ) (before : List Entry) (e : Entry) (behind : Lis
       sides Offer Bid h = absurd (false≢true h)
       sides Offer Offer h = refl
 
-  pub rows_part_filled : (lots : ℕ) → lots < e.order.lots → rows_in (before ++ (with_lots e (e.order.lots - lots) ∷ behind)) ≡ put_row (rows_in (before ++ (e ∷ behind))) side i (first_filled lots (rows_in (before ++ (e ∷ behind)) side i))
+  pub rows_part_filled : (lots : ℕ) → lots < e.order.lots → rows_in (before ++ (entry_with_lots e (e.order.lots - lots) ∷ behind)) ≡ put_row (rows_in (before ++ (e ∷ behind))) side i (first_filled lots (rows_in (before ++ (e ∷ behind)) side i))
   rows_part_filled lots l =
-      put_row_is (rows_in (before ++ (with_lots e (e.order.lots - lots) ∷ behind))) (rows_in (before ++ (e ∷ behind))) side i _
-      (row_from (with_lots e (e.order.lots - lots) ∷ behind) ∙ ap (λ z. map order_of z) (cond-true (stands_at side i e) (with_lots e (e.order.lots - lots) ∷ filter (stands_at side i) behind) _ there) ∙ sym (ap (first_filled lots) row_at_first ∙ cond-true (ltb lots e.order.lots) _ others (lt-ltb lots e.order.lots l)))
+      put_row_is (rows_in (before ++ (entry_with_lots e (e.order.lots - lots) ∷ behind))) (rows_in (before ++ (e ∷ behind))) side i _
+      (row_from (entry_with_lots e (e.order.lots - lots) ∷ behind) ∙ ap (λ z. map order_of z) (cond-true (stands_at side i e) (entry_with_lots e (e.order.lots - lots) ∷ filter (stands_at side i) behind) _ there) ∙ sym (ap (first_filled lots) row_at_first ∙ cond-true (ltb lots e.order.lots) _ others (lt-ltb lots e.order.lots l)))
       (λ t j ne. elsewhere_lots (e.order.lots - lots) t j (not_its_place t j ne))
 
   pub rows_whole_filled : (lots : ℕ) → e.order.lots ≤ lots → rows_in (before ++ behind) ≡ put_row (rows_in (before ++ (e ∷ behind))) side i (first_filled lots (rows_in (before ++ (e ∷ behind)) side i))

@@ -10,6 +10,7 @@ use Rattle.terms.specs.declared.Side.TheVariants.{Bid, Offer}
 use Rattle.row.specs.Rows.{inserted, without}
 use Rattle.book.specs.declared.entry.Entry.{Entry}
 use Rattle.book.specs.Entries.{precedes, precedes_by_side}
+use Rattle.book.specs.Reads.{entry_with_lots}
 use Rattle.book.specs.Standing.{is_unpreceded, stands}
 
 -- The same, as a relation.
@@ -106,43 +107,39 @@ stands_without place xs h = record { ordered = subst (λ n. Ordered (take place 
 
 -- ---- fills in place
 
--- The same entry but for its lots.
-abbrev pub with_lots : Entry → ℕ → Entry
-with_lots e lots = record { instrument = e.instrument; side = e.side; order = record { rate = e.order.rate; number = e.order.number; member = e.order.member; lots = lots } }
-
 -- Precedence does not look at the lots.
-lots_unseen_left : (x y : Entry) (lots : ℕ) → precedes x y ≡ false → precedes (with_lots x lots) y ≡ false
+lots_unseen_left : (x y : Entry) (lots : ℕ) → precedes x y ≡ false → precedes (entry_with_lots x lots) y ≡ false
 lots_unseen_left x y lots h = subst (λ z. cond (ltb x.instrument y.instrument) true (cond (ltb y.instrument x.instrument) false z) ≡ false) (go x.side y.side) h
   where
-    go : (s t : Side) → precedes_by_side s t x.order y.order ≡ precedes_by_side s t (with_lots x lots).order y.order
+    go : (s t : Side) → precedes_by_side s t x.order y.order ≡ precedes_by_side s t (entry_with_lots x lots).order y.order
     go Bid Bid = refl
     go Bid Offer = refl
     go Offer Bid = refl
     go Offer Offer = refl
 
-lots_unseen_right : (x y : Entry) (lots : ℕ) → precedes y x ≡ false → precedes y (with_lots x lots) ≡ false
+lots_unseen_right : (x y : Entry) (lots : ℕ) → precedes y x ≡ false → precedes y (entry_with_lots x lots) ≡ false
 lots_unseen_right x y lots h = subst (λ z. cond (ltb y.instrument x.instrument) true (cond (ltb x.instrument y.instrument) false z) ≡ false) (go y.side x.side) h
   where
-    go : (s t : Side) → precedes_by_side s t y.order x.order ≡ precedes_by_side s t y.order (with_lots x lots).order
+    go : (s t : Side) → precedes_by_side s t y.order x.order ≡ precedes_by_side s t y.order (entry_with_lots x lots).order
     go Bid Bid = refl
     go Bid Offer = refl
     go Offer Bid = refl
     go Offer Offer = refl
 
-all_set_lots : (P : Entry → Type 0) (xs : List Entry) (place lots : ℕ) (d : Entry) → ((x : Entry) → P x → P (with_lots x lots)) → AllByRecursion P xs → AllByRecursion P (set xs place (with_lots (get_or xs place d) lots))
+all_set_lots : (P : Entry → Type 0) (xs : List Entry) (place lots : ℕ) (d : Entry) → ((x : Entry) → P x → P (entry_with_lots x lots)) → AllByRecursion P xs → AllByRecursion P (set xs place (entry_with_lots (get_or xs place d) lots))
 all_set_lots P [] place lots d f h = nothing place
   where
-    nothing : (n : ℕ) → AllByRecursion P (set [] n (with_lots (get_or [] n d) lots))
+    nothing : (n : ℕ) → AllByRecursion P (set [] n (entry_with_lots (get_or [] n d) lots))
     nothing zero = tt
     nothing (suc n) = tt
 all_set_lots P (x ∷ xs) zero lots d f h = (f x h.0, h.1)
 all_set_lots P (x ∷ xs) (suc place) lots d f h = (h.0, all_set_lots P xs place lots d f h.1)
 
-ordered_set_lots : (xs : List Entry) (place lots : ℕ) (d : Entry) → Ordered xs → Ordered (set xs place (with_lots (get_or xs place d) lots))
+ordered_set_lots : (xs : List Entry) (place lots : ℕ) (d : Entry) → Ordered xs → Ordered (set xs place (entry_with_lots (get_or xs place d) lots))
 ordered_set_lots [] zero lots d h = tt
 ordered_set_lots [] (suc place) lots d h = tt
-ordered_set_lots (x ∷ xs) zero lots d h = (All-weaker (λ y. precedes y x ≡ false) (λ y. precedes y (with_lots x lots) ≡ false) (λ y k. lots_unseen_right x y lots k) xs h.0, h.1)
+ordered_set_lots (x ∷ xs) zero lots d h = (All-weaker (λ y. precedes y x ≡ false) (λ y. precedes y (entry_with_lots x lots) ≡ false) (λ y k. lots_unseen_right x y lots k) xs h.0, h.1)
 ordered_set_lots (x ∷ xs) (suc place) lots d h = (all_set_lots (λ y. precedes y x ≡ false) xs place lots d (λ y k. lots_unseen_left y x lots k) h.0, ordered_set_lots xs place lots d h.1)
 
-pub stands_set_lots : (xs : List Entry) (place lots : ℕ) (d : Entry) → Stands xs → Stands (set xs place (with_lots (get_or xs place d) lots))
+pub stands_set_lots : (xs : List Entry) (place lots : ℕ) (d : Entry) → Stands xs → Stands (set xs place (entry_with_lots (get_or xs place d) lots))
 stands_set_lots xs place lots d h = record { ordered = ordered_set_lots xs place lots d h.ordered; in_range = all_set_lots (λ (x : Entry). x.instrument < 16) xs place lots d (λ _ k. k) h.in_range }

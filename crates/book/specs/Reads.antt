@@ -1,5 +1,5 @@
 -- The rows of the rules, as a book holds them.
-use Rattle.std.specs.Prelude.{◌≡◌, ℕ, ◌-◌, ◌<◌, Bool, true, cond, ◌&&◌, List, [], ◌∷◌, ◌++◌, map, length, slice_index_or, take, pos, Some, None, filter, Option, ◌==◌, nat_lt, slice_set}
+use Rattle.std.specs.Prelude.{ℕ, ◌-◌, Bool, cond, ◌&&◌, List, [], ◌∷◌, ◌++◌, map, length, slice_index_or, pos, Some, None, filter, Option, ◌==◌, nat_lt, slice_set}
 use Rattle.terms.specs.declared.Order.{Order}
 use Rattle.terms.specs.declared.Side.{Side}
 use Rattle.terms.specs.declared.Side.TheVariants.{Bid, Offer}
@@ -25,7 +25,7 @@ abbrev pub rows_in : List Entry → Rows
 rows_in entries side i = map order_of (filter (stands_at side i) entries)
 
 abbrev pub entries_of : Book → List Entry
-entries_of book = take book.count book.entries
+entries_of book = book.entries.items
 
 abbrev pub rows_of : Book → Rows
 rows_of book = rows_in (entries_of book)
@@ -34,7 +34,7 @@ abbrev pub leaving_order : Leaving → Order
 leaving_order leaving = leaving.0
 
 abbrev pub taken_orders : Taken → List Order
-taken_orders taken = map leaving_order (take taken.count taken.orders)
+taken_orders taken = map leaving_order taken.orders.items
 
 abbrev pub first_of : List Order → Option Order
 first_of [] = None
@@ -67,9 +67,3 @@ filled_at place lots entries =
     cond (nat_lt lots (slice_index_or entries place blank_entry).order.lots)
     (slice_set entries place (entry_with_lots (slice_index_or entries place blank_entry) ((slice_index_or entries place blank_entry).order.lots - lots)))
     (without place entries)
-
--- A place among the first n where an entry of this row stands, with none of it before.
-pub record IsFirstAt (side : Side) (i n : ℕ) (entries : List Entry) (place : ℕ) : Type 0 where
-  pub within : place < n
-  pub there : stands_at side i (slice_index_or entries place blank_entry) ≡ true
-  pub none_before : filter (stands_at side i) (take place entries) ≡ []

@@ -3,12 +3,12 @@ ghost use Rattle.book.specs.Entries.{Precedes as StandsBefore, Alike as SamePlac
 ghost use Rattle.market.specs.Cancels.{has_lower_number};
 ghost use Rattle.std.proofs.Common.{rules};
 
-use row::entries::{Bid, Offer};
+use row::entries::stands_before;
 use row::precedence::Precedence;
 use terms::{Order, Side};
 
 /// A pending order with the instrument and the side that it stands on.
-#[derive(Clone, Copy, PartialEq, Eq, Debug)]
+#[derive(Clone, Copy, Default, PartialEq, Eq, Debug)]
 pub struct Entry {
     pub instrument: u8,
     pub side: Side,
@@ -37,17 +37,15 @@ impl Precedence for Entry {
         if self.instrument != other.instrument {
             return self.instrument < other.instrument;
         }
-        match (self.side, other.side) {
-            (Side::Bid, Side::Bid) => Bid(self.order).precedes(&Bid(other.order)),
-            (Side::Bid, Side::Offer) => true,
-            (Side::Offer, Side::Bid) => false,
-            (Side::Offer, Side::Offer) => Offer(self.order).precedes(&Offer(other.order)),
+        if self.side != other.side {
+            return self.side == Side::Bid;
         }
+        stands_before(self.side, &self.order, &other.order)
     }
 }
 
 /// An order among those that leave the book together: they leave lowest number first.
-#[derive(Clone, Copy, PartialEq, Eq, Debug)]
+#[derive(Clone, Copy, Default, PartialEq, Eq, Debug)]
 pub struct Leaving(pub Order);
 
 impl Precedence for Leaving {

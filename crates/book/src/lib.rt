@@ -5,6 +5,7 @@
 pub mod books;
 pub mod entry;
 mod listing;
+mod ordered;
 mod orders;
 pub mod part;
 mod parts;

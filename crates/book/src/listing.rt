@@ -1,4 +1,4 @@
-ghost use Rattle.std.specs.Prelude.{◌≡◌, ◌+◌, ◌≤◌, ◌++◌, map, length, take, drop, if◌then◌else◌, Some, None, nat_lt};
+ghost use Rattle.std.specs.Prelude.{◌≡◌, ◌+◌, ◌≤◌, ◌++◌, map, length, drop, if◌then◌else◌, Some, None, nat_lt};
 ghost use Rattle.terms.specs.declared.Side.TheVariants.{Bid as BidSide, Offer as OfferSide};
 ghost use Rattle.market.specs.Lists.{Wrote};
 ghost use Rattle.market.specs.Markets.{listed};
@@ -31,15 +31,9 @@ impl Book {
         ensures answer { result ≡ counts_of (rows_of self.now) instrument }
         ensures after { list.new ≡ listing_in (rows_of self.now) instrument ++ drop (length (listing_in (rows_of self.now) instrument)) list.old }
     {
-        let bids = list_side(&self.entries, self.count, Side::Bid, instrument, list, 0);
-        let end = list_side(
-            &self.entries,
-            self.count,
-            Side::Offer,
-            instrument,
-            list,
-            bids,
-        );
+        let entries = self.entries.as_slice();
+        let bids = list_side(entries, Side::Bid, instrument, list, 0);
+        let end = list_side(entries, Side::Offer, instrument, list, bids);
         ListingCounts {
             bids,
             offers: end - bids,
@@ -50,20 +44,19 @@ impl Book {
 // Writes one side from a place of the list on, and answers the place after it.
 fn list_side(
     entries: &[Entry],
-    n: usize,
     side: Side,
     instrument: u8,
     list: &mut [Listed],
     from: usize,
 ) -> usize
-    requires { (n ≤ length entries.now) × (from + length (rows_in (take n entries.now) side instrument) ≤ length list.old) }
-    ensures { Wrote list.old list.new from result (map (listed side) (rows_in (take n entries.now) side instrument)) }
+    requires { from + length (rows_in entries.now side instrument) ≤ length list.old }
+    ensures { Wrote list.old list.new from result (map (listed side) (rows_in entries.now side instrument)) }
 {
     let mut place = from;
-    for i in 0..n {
-        let entry = entries[i];
-        if is_at(&entry, side, instrument) {
-            list[place] = listed(side, &entry);
+    for entry in entries {
+        if is_at(entry, side, instrument) {
+            // By place, since a zip with `iter_mut` leaves a proof without what it wrote.
+            list[place] = listed(side, entry);
             place += 1;
         }
     }

@@ -1,46 +1,33 @@
-ghost use Rattle.std.specs.Prelude.{◌≡◌, ◌<◌, ◌≤◌, [], length, take, is_ok, if◌then◌else◌, Ok, Err, filter, MatchOption, nat_le};
+ghost use Rattle.std.specs.Prelude.{◌≡◌, ◌<◌, [], length, is_ok, if◌then◌else◌, Ok, Err, nat_le};
+ghost use Rattle.std.specs.List.{find, position};
+ghost use Rattle.std.specs.Option.{option_map};
 ghost use Rattle.row.specs.Rates.{precedes as order_precedes};
 ghost use Rattle.row.specs.Rows.{inserted};
 ghost use Rattle.market.specs.Markets.{put_row, pending_orders};
 ghost use Rattle.book.specs.declared.books.BookRefusal.TheVariants.{NoSuchInstrument, Full};
-ghost use Rattle.book.specs.Reads.{entries_of, rows_in, rows_of, stands_at, first_of, first_filled, entry_with_lots, filled_at, IsFirstAt};
+ghost use Rattle.book.specs.Reads.{order_of, entries_of, rows_of, stands_at, first_of, first_filled, filled_at};
 
 use crate::books::{Book, BookRefusal, PLACES};
 use crate::entry::Entry;
+use crate::ordered::put_in_order;
+use arrayvec::ArrayVec;
 use terms::{Order, Side};
-
-const NO_ENTRY: Entry = Entry {
-    instrument: 0,
-    side: Side::Bid,
-    order: Order {
-        rate: 0,
-        number: 0,
-        member: 0,
-        lots: 0,
-    },
-};
 
 impl Book {
     pub fn empty() -> Self
         ensures { entries_of result ≡ [] }
     {
         Book {
-            entries: [NO_ENTRY; PLACES],
-            count: 0,
+            entries: ArrayVec::new(),
         }
     }
 
     /// How many orders are pending.
+    #[tactic(auto, using(crate::proofs::Places::count_is))]
     pub fn count(&self) -> usize
         ensures { result ≡ length (pending_orders (rows_of self.now)) }
     {
-        self.occupied()
-    }
-
-    fn occupied(&self) -> usize
-        ensures { result ≡ length (pending_orders (rows_of self.now)) }
-    {
-        self.count
+        self.entries.len()
     }
 
     /// Puts an order where its rate and number say.
@@ -62,16 +49,15 @@ impl Book {
         requires { (entry.instrument < 16) × (length (pending_orders (rows_of self.old)) < 256) }
         ensures { rows_of self.new ≡ put_row (rows_of self.old) entry.side entry.instrument (inserted (order_precedes entry.side) entry.order (rows_of self.old entry.side entry.instrument)) }
     {
-        let n = self.count;
-        let _ = row::insert(&mut self.entries, n, entry);
-        self.count = n + 1;
+        put_in_order(&mut self.entries, entry);
     }
 
     /// The first order of one side of an instrument.
+    #[tactic(auto, using(crate::proofs::Places::first_found))]
     pub fn first(&self, side: Side, instrument: u8) -> Option<Order>
         ensures { result ≡ first_of (rows_of self.now side instrument) }
     {
-        first_in(&self.entries, self.count, side, instrument)
+        first_in(&self.entries, side, instrument)
     }
 
     /// Takes lots from the first order of one side of an instrument. An order with no lots left leaves the book.
@@ -84,70 +70,43 @@ impl Book {
     fn fill_first(&mut self, side: Side, instrument: u8, lots: u16)
         ensures { rows_of self.new ≡ put_row (rows_of self.old) side instrument (first_filled lots (rows_of self.old side instrument)) }
     {
-        if let Some(place) = find(&self.entries, self.count, side, instrument) {
+        if let Some(place) = find(&self.entries, side, instrument) {
             self.fill_at(place, lots);
         }
     }
 
     fn fill_at(&mut self, place: usize, lots: u16)
-        requires { place < self.old.count }
+        requires { place < length (entries_of self.old) }
         ensures { entries_of self.new ≡ filled_at place lots (entries_of self.old) }
     {
-        let first = self.entries[place];
-        if lots < first.order.lots {
-            self.entries[place] = with_lots(first, first.order.lots - lots);
+        if lots < self.entries[place].order.lots {
+            self.entries[place].order.lots -= lots;
         } else {
-            let n = self.count;
-            let _ = row::remove(&mut self.entries, n, place);
-            self.count = n - 1;
+            self.entries.remove(place);
         }
     }
 }
 
-fn with_lots(entry: Entry, lots: u16) -> Entry
-    ensures { result ≡ entry_with_lots entry lots }
+fn first_in(entries: &[Entry], side: Side, instrument: u8) -> Option<Order>
+    ensures { result ≡ option_map order_of (find (stands_at side instrument) entries.now) }
 {
-    Entry {
-        instrument: entry.instrument,
-        side: entry.side,
-        order: Order {
-            rate: entry.order.rate,
-            number: entry.order.number,
-            member: entry.order.member,
-            lots,
-        },
-    }
+    entries
+        .iter()
+        .find(|entry| is_at(entry, side, instrument))
+        .map(|entry| entry.order)
 }
 
-fn first_in(entries: &[Entry], n: usize, side: Side, instrument: u8) -> Option<Order>
-    requires { n ≤ length entries.now }
-    ensures { result ≡ first_of (rows_in (take n entries.now) side instrument) }
+// Where the first order of one side of an instrument stands.
+fn find(entries: &[Entry], side: Side, instrument: u8) -> Option<usize>
+    ensures { result ≡ position (stands_at side instrument) entries.now }
 {
-    match find(entries, n, side, instrument) {
-        Some(place) => Some(entries[place].order),
-        None => None,
-    }
-}
-
-// Where the first order of one side of an instrument stands among the first n entries.
-fn find(entries: &[Entry], n: usize, side: Side, instrument: u8) -> Option<usize>
-    requires { n ≤ length entries.now }
-    ensures { MatchOption result (filter (stands_at side instrument) (take n entries.now) ≡ []) (λ p. IsFirstAt side instrument n entries.now p) }
-{
-    for i in 0..n {
-        if is_at(&entries[i], side, instrument) {
-            return Some(i);
-        }
-    }
-    None
+    entries
+        .iter()
+        .position(|entry| is_at(entry, side, instrument))
 }
 
 pub(crate) fn is_at(entry: &Entry, side: Side, instrument: u8) -> bool
     ensures { result ≡ stands_at side instrument entry.now }
 {
-    match (side, entry.side) {
-        (Side::Bid, Side::Bid) => instrument == entry.instrument,
-        (Side::Offer, Side::Offer) => instrument == entry.instrument,
-        (_, _) => false,
-    }
+    entry.side == side && entry.instrument == instrument
 }

@@ -1,4 +1,5 @@
 ghost use Rattle.std.specs.Prelude.{◌≡◌, ◌+◌, ◌≤◌, not, ◌++◌, map, length, take, drop, if◌then◌else◌, Some, None, filter, ◌==◌, nat_le};
+ghost use Rattle.std.specs.List.{list_any};
 ghost use Rattle.market.specs.Cancels.{cancelled, by_number, rows_without, picked_orders};
 ghost use Rattle.market.specs.Lists.{Wrote};
 ghost use Rattle.market.specs.Markets.{pending_orders};
@@ -7,29 +8,18 @@ ghost use Rattle.book.specs.Reads.{order_of, rows_of, taken_orders};
 
 use crate::books::{Book, PLACES, Taken};
 use crate::entry::{Entry, Leaving};
+use crate::ordered::put_in_order;
 use crate::picked::Picked;
+use arrayvec::ArrayVec;
 use market::events::{Cancellation, Event, Reason};
-use terms::Order;
-
-const NO_ORDER: Leaving = Leaving(Order {
-    rate: 0,
-    number: 0,
-    member: 0,
-    lots: 0,
-});
 
 impl Book {
     /// Whether any order is picked.
+    #[tactic(auto, using(crate::proofs::Loops::any_pending))]
     pub fn has(&self, picked: &Picked) -> bool
         ensures { result ≡ not (length (filter (picks picked.now) (pending_orders (rows_of self.now))) == 0) }
     {
-        self.has_any(picked)
-    }
-
-    fn has_any(&self, picked: &Picked) -> bool
-        ensures { result ≡ not (length (filter (picks picked.now) (pending_orders (rows_of self.now))) == 0) }
-    {
-        any(&self.entries, self.count, picked)
+        any(&self.entries, picked)
     }
 
     /// Takes out the orders that are picked, lowest number first.
@@ -45,61 +35,41 @@ impl Book {
     fn picked(&self, picked: &Picked) -> Taken
         ensures { taken_orders result ≡ picked_orders (picks picked.now) (rows_of self.now) }
     {
-        collect(&self.entries, self.count, picked)
+        collect(&self.entries, picked)
     }
 
     fn leave_out(&mut self, picked: &Picked)
         ensures { rows_of self.new ≡ rows_without (picks picked.now) (rows_of self.old) }
     {
-        let kept = keep(&mut self.entries, self.count, picked);
-        self.count = kept;
+        keep(&mut self.entries, picked);
     }
 }
 
-fn any(entries: &[Entry], n: usize, picked: &Picked) -> bool
-    requires { n ≤ length entries.now }
-    ensures { result ≡ not (length (filter (picks picked.now) (map order_of (take n entries.now))) == 0) }
+fn any(entries: &[Entry], picked: &Picked) -> bool
+    ensures { result ≡ list_any (λ entry. picks picked.now (order_of entry)) entries.now }
 {
-    for i in 0..n {
-        if picked.picks(&entries[i].order) {
-            return true;
-        }
-    }
-    false
+    entries.iter().any(|entry| picked.picks(&entry.order))
 }
 
-// The picked ones of the first n, from the last to the first, each put among the others by its number.
-fn collect(entries: &[Entry], n: usize, picked: &Picked) -> Taken
-    requires { (n ≤ length entries.now) × (n ≤ 256) }
-    ensures { taken_orders result ≡ by_number (filter (picks picked.now) (map order_of (take n entries.now))) }
+// Leaves out the ones that are picked.
+fn keep(entries: &mut ArrayVec<Entry, PLACES>, picked: &Picked)
+    ensures { entries.new.items ≡ filter (λ entry. not (picks picked.now (order_of entry))) entries.old.items }
 {
-    let mut orders = [NO_ORDER; PLACES];
-    let mut count = 0;
-    for i in 0..n {
-        let order = entries[n - 1 - i].order;
-        if picked.picks(&order) {
-            let _ = row::insert(&mut orders, count, Leaving(order));
-            count += 1;
-        }
-    }
-    Taken { orders, count }
+    entries.retain(|entry| !picked.picks(&entry.order));
 }
 
-// Moves the ones that are not picked to the front, and answers how many they are.
-fn keep(entries: &mut [Entry], n: usize, picked: &Picked) -> usize
-    requires { n ≤ length entries.old }
-    ensures few { result ≤ n }
-    ensures front { take result entries.new ≡ filter (λ entry. not (picks picked.now (order_of entry))) (take n entries.old) }
+// The picked ones, from the last to the first, each put among the others by its number.
+fn collect(entries: &[Entry], picked: &Picked) -> Taken
+    requires { length entries.now ≤ 256 }
+    ensures { taken_orders result ≡ by_number (filter (picks picked.now) (map order_of entries.now)) }
 {
-    let mut front = 0;
-    for i in 0..n {
-        let entry = entries[i];
-        if !picked.picks(&entry.order) {
-            entries[front] = entry;
-            front += 1;
+    let mut orders = ArrayVec::new();
+    for entry in entries.iter().rev() {
+        if picked.picks(&entry.order) {
+            put_in_order(&mut orders, Leaving(entry.order));
         }
     }
-    front
+    Taken { orders }
 }
 
 impl Taken {
@@ -107,13 +77,7 @@ impl Taken {
     pub fn count(&self) -> usize
         ensures { result ≡ length (taken_orders self.now) }
     {
-        self.occupied()
-    }
-
-    fn occupied(&self) -> usize
-        ensures { result ≡ length (taken_orders self.now) }
-    {
-        self.count
+        self.orders.len()
     }
 
     /// Writes a cancel for each from a place of the list on, and answers the place after them; none if there is no room for all.
@@ -121,20 +85,21 @@ impl Taken {
         ensures answer { result ≡ (if nat_le (from + length (taken_orders self.now)) (length events.old) then Some (from + length (taken_orders self.now)) else None) }
         ensures after { events.new ≡ (if nat_le (from + length (taken_orders self.now)) (length events.old) then take from events.old ++ (map (cancelled reason) (taken_orders self.now) ++ drop (from + length (taken_orders self.now)) events.old) else events.old) }
     {
-        let count = self.count();
-        if events.len() < count || events.len() - count < from {
+        let to = from.checked_add(self.count())?;
+        if to > events.len() {
             return None;
         }
         self.tell_all(reason, events, from);
-        Some(from + count)
+        Some(to)
     }
 
     fn tell_all(&self, reason: Reason, events: &mut [Event], from: usize)
         requires { from + length (taken_orders self.now) ≤ length events.old }
         ensures { Wrote events.old events.new from (from + length (taken_orders self.now)) (map (cancelled reason) (taken_orders self.now)) }
     {
-        for i in 0..self.count {
-            events[from + i] = cancelled(reason, &self.orders[i]);
+        // By place, since a zip with `iter_mut` leaves a proof without what it wrote.
+        for (i, leaving) in self.orders.iter().enumerate() {
+            events[from + i] = cancelled(reason, leaving);
         }
     }
 }

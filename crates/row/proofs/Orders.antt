@@ -1,5 +1,5 @@
 -- The laws of every row.
-use Rattle.std.proofs.Common.{◌≡◌, ℕ, zero, suc, ◌<◌, ◌≤◌, Bool, true, List, [], ◌∷◌, ◌++◌, length, get_or, take, drop, Some, None, refl, ap, subst, add-one, arith}
+use Rattle.std.proofs.Common.{◌≡◌, ℕ, zero, suc, Bool, true, List, [], ◌∷◌, ◌++◌, take, drop, Some, refl, ap, subst, add-one, arith}
 use Rattle.std.proofs.lemmas.Bool.{cond_both, both_ways}
 use Rattle.row.specs.Rows.{inserted, without, entry_at}
 use Rattle.row.specs.Laws.{PrecededByNone, InOrder, OneMore, RowLaws}
@@ -79,14 +79,3 @@ module _ {X : Type 0} (Precedes : X → X → Type 0) (test : X → X → Bool)
         remove_takes_one = takes_one;
         first_preceded_by_none = preceded_by_none;
       }
-
--- What stands at a place.
-pub entry_at_get_or : {X : Type 0} (i : ℕ) (xs : List X) (x : X) → i < length xs → x ≡ get_or xs i x → Some x ≡ entry_at i xs
-entry_at_get_or i [] x lt e = absurd (omega arith)
-entry_at_get_or zero (y ∷ ys) x lt e = ap Some e
-entry_at_get_or (suc i) (y ∷ ys) x lt e = entry_at_get_or i ys x (omega arith) e
-
-pub entry_at_past : {X : Type 0} (i : ℕ) (xs : List X) → length xs ≤ i → None ≡ entry_at i xs
-entry_at_past i [] le = refl
-entry_at_past zero (y ∷ ys) le = absurd (omega arith)
-entry_at_past (suc i) (y ∷ ys) le = entry_at_past i ys (omega arith)

@@ -1,10 +1,10 @@
-ghost use Rattle.std.specs.Prelude.{◌≡◌, nat_lt};
+ghost use Rattle.std.specs.Prelude.{◌≡◌};
 ghost use Rattle.terms.specs.declared.Side.TheVariants.{Bid as BidSide, Offer as OfferSide};
 ghost use Rattle.row.specs.Rates.{Precedes as StandsBefore, Alike as SamePlace, precedes as stands_before};
 ghost use Rattle.std.proofs.Common.{rules};
 
 use crate::precedence::Precedence;
-use terms::Order;
+use terms::{Order, Side};
 
 /// A bid: the higher rate precedes, and at one rate the lower number.
 #[derive(Clone, Copy, PartialEq, Eq, Debug)]
@@ -32,12 +32,7 @@ impl Precedence for Bid {
     ghost total = { Prim.search rules };
 
     fn precedes(&self, other: &Self) -> bool {
-        let (ours, theirs) = (&self.0, &other.0);
-        if ours.rate == theirs.rate {
-            has_lower_number(ours, theirs)
-        } else {
-            ours.rate > theirs.rate
-        }
+        stands_before(Side::Bid, &self.0, &other.0)
     }
 }
 
@@ -59,18 +54,19 @@ impl Precedence for Offer {
     ghost total = { Prim.search rules };
 
     fn precedes(&self, other: &Self) -> bool {
-        let (ours, theirs) = (&self.0, &other.0);
-        if ours.rate == theirs.rate {
-            has_lower_number(ours, theirs)
-        } else {
-            ours.rate < theirs.rate
-        }
+        stands_before(Side::Offer, &self.0, &other.0)
     }
 }
 
-// At one rate who came first stands first, bid or offer.
-fn has_lower_number(ours: &Order, theirs: &Order) -> bool
-    ensures { result ≡ nat_lt ours.now.number theirs.now.number }
+/// Whether an order is met before another of its side: the better rate first, and at one rate who came first.
+pub fn stands_before(side: Side, ours: &Order, theirs: &Order) -> bool
+    ensures { result ≡ stands_before side ours.now theirs.now }
 {
-    ours.number < theirs.number
+    if ours.rate == theirs.rate {
+        return ours.number < theirs.number;
+    }
+    match side {
+        Side::Bid => ours.rate > theirs.rate,
+        Side::Offer => ours.rate < theirs.rate,
+    }
 }

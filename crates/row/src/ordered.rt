@@ -1,6 +1,7 @@
-ghost use Rattle.std.specs.Prelude.{◌≡◌, ◌+◌, ◌-◌, ◌<◌, ◌≤◌, ◌∷◌, ◌++◌, length, take, drop, is_some, nat_lt};
+ghost use Rattle.std.specs.Prelude.{◌≡◌, ◌+◌, ◌-◌, ◌<◌, ◌≤◌, ◌∷◌, ◌++◌, length, take, drop};
+ghost use Rattle.std.specs.List.{position};
 ghost use Rattle.row.specs.Laws.{RowLaws};
-ghost use Rattle.row.specs.Rows.{inserted, without, entry_at, count_answer, insert_answer, after_insert, remove_answer, after_remove, first_answer};
+ghost use Rattle.row.specs.Rows.{inserted, without, count_answer, insert_answer, after_insert, remove_answer, after_remove, first_answer};
 
 use crate::precedence::Precedence;
 use crate::refusal::RowRefusal;
@@ -15,7 +16,7 @@ pub fn insert<E: Precedence>(row: &mut [E], n: usize, entry: E) -> Result<usize,
     if n == row.len() {
         return Err(RowRefusal::NoRoom);
     }
-    let place = place_of(&*row, n, &entry);
+    let place = place_of(&row[..n], &entry);
     open_at(row, n + 1, place, entry);
     Ok(n + 1)
 }
@@ -26,7 +27,7 @@ pub fn first<E: Precedence>(row: &[E], n: usize) -> Result<Option<E>, RowRefusal
     ensures laws { RowLaws E.Precedence.Precedes E.Precedence.test }
 {
     check_count(row, n)?;
-    Ok(entry_at(row, n, 0))
+    Ok(row[..n].first().copied())
 }
 
 /// Takes the entry at a place out of the first `n` of the slice, and answers it; the place that falls free stays as it was.
@@ -36,9 +37,7 @@ pub fn remove<E: Precedence>(row: &mut [E], n: usize, place: usize) -> Result<E,
     ensures laws { RowLaws E.Precedence.Precedes E.Precedence.test }
 {
     check_count(&*row, n)?;
-    let Some(entry) = entry_at(&*row, n, place) else {
-        return Err(RowRefusal::NoSuchPlace);
-    };
+    let entry = row[..n].get(place).copied().ok_or(RowRefusal::NoSuchPlace)?;
     close_at(row, n, place);
     Ok(entry)
 }
@@ -54,30 +53,18 @@ fn check_count<E: Precedence>(row: &[E], n: usize) -> Result<(), RowRefusal>
     Ok(())
 }
 
-// What stands at a place of the first n.
-fn entry_at<E: Copy>(row: &[E], n: usize, place: usize) -> Option<E>
-    requires { n ≤ length row.now }
-    ensures value { result ≡ entry_at place (take n row.now) }
-    ensures test { is_some result ≡ nat_lt place n }
+// Where an entry goes in: before the first that it precedes.
+fn place_of<E: Precedence>(entries: &[E], added: &E) -> usize
+    ensures within { result ≤ length entries.now }
+    ensures place { inserted E.Precedence.test added.now entries.now ≡ take result entries.now ++ added.now ∷ drop result entries.now }
 {
-    if place >= n {
-        return None;
-    }
-    Some(row[place])
+    first_preceded(entries, added).unwrap_or(entries.len())
 }
 
-// Where an entry goes in among the first n: before the first that it precedes.
-fn place_of<E: Precedence>(row: &[E], n: usize, added: &E) -> usize
-    requires { n ≤ length row.now }
-    ensures within { result ≤ n }
-    ensures place { inserted E.Precedence.test added.now (take n row.now) ≡ take result row.now ++ added.now ∷ drop result (take n row.now) }
+fn first_preceded<E: Precedence>(entries: &[E], added: &E) -> Option<usize>
+    ensures { result ≡ position (λ standing. E.Precedence.test added.now standing) entries.now }
 {
-    for i in 0..n {
-        if added.precedes(&row[i]) {
-            return i;
-        }
-    }
-    n
+    entries.iter().position(|standing| added.precedes(standing))
 }
 
 // Within the first `end` places, moves the entries from a place on by one and puts an entry there. What stood last is written over.
@@ -85,12 +72,8 @@ fn open_at<E: Copy>(row: &mut [E], end: usize, place: usize, entry: E)
     requires { (end ≤ length row.old) × (place < end) }
     ensures { row.new ≡ (take place row.old ++ entry ∷ drop place (take (end - 1) row.old)) ++ drop end row.old }
 {
-    let mut carry = entry;
-    for k in place..end {
-        let next = row[k];
-        row[k] = carry;
-        carry = next;
-    }
+    row[end - 1] = entry;
+    row[place..end].rotate_right(1);
 }
 
 // Within the first n places, moves the entries after a place back by one. What stood last stays there too.
@@ -98,8 +81,5 @@ fn close_at<E: Copy>(row: &mut [E], n: usize, place: usize)
     requires { (n ≤ length row.old) × (place < n) }
     ensures { row.new ≡ without place (take n row.old) ++ drop (n - 1) row.old }
 {
-    let last = n - 1;
-    for k in place..last {
-        row[k] = row[k + 1];
-    }
+    row.copy_within(place + 1..n, place);
 }

@@ -1,10 +1,11 @@
-use Rattle.std.proofs.Common.{arith}
-use Rattle.std.proofs.lemmas.List.Sums.{sum_by_more}
-use Rattle.book.specs.Parts.{counted_lots}
-use Rattle.book.specs.Reads.{blank_entry}
+use Rattle.std.proofs.Common.{◌+◌, ◌*◌, rules, arith}
+use Rattle.std.proofs.lemmas.Iterator.{YieldsList-from_slice}
+use Rattle.std.proofs.lemmas.Iterator.Adapters.{fits_from_length, at_most_from_yields_List}
+use borrow.Author.Tests.{tests}
+use Rattle.book.proofs.Loops.{sum_below}
 use Rattle.book.proofs.parts.sum_lots.Goals as goal
 
-pub loop-i-preserved : goal.loop-i-preserved
-loop-i-preserved c =
-    let more = sum_by_more (counted_lots c.args.part.now c.args.member) c.args.entries.now c.loop-i.i blank_entry (omega arith) in
-    (omega (arith, c.loop-i.invariant.0, c.lots_counted-sum.ensures.value), omega (arith, c.loop-i.invariant.1, c.lots_counted-sum.ensures.few))
+pub returns-clause-few : goal.returns-clause-few
+returns-clause-few c =
+    let few = sum_below c.sum.result (65535 * 256 + 1) (c.sum.ensures.runs tt) (fits_from_length _ _ 256 (65535 * 256 + 1) (at_most_from_yields_List (YieldsList-from_slice {s = c.map.result.iter} c.args.entries.now cc) c.requires) c.map.ensures.closure (omega arith) (λ x r q k. search (rules, tests))) in
+    omega (arith, few)

@@ -1,27 +1,47 @@
-use Rattle.std.proofs.Common.{◌≡◌, ◌-◌, map, take, drop, filter, sym, refl, ap, ◌∙◌, arith}
-use Rattle.std.proofs.lemmas.List.{length-map, length-take-le}
-use Rattle.market.specs.Cancels.{by_number}
+use Rattle.std.proofs.Common.{◌≡◌, ◌-◌, map, length, drop, filter, sym, ap, ◌∙◌, arith, lit<}
+use Rattle.std.proofs.lemmas.List.{length-map, length_push, length-reverse}
+use Rattle.std.proofs.lemmas.Iterator.Adapters.{YieldsList-from_rev_slice}
+use Rattle.std.proofs.lemmas.Iterator.Consumers.{YieldsList-turn, YieldsList-end}
+use Rattle.market.specs.Cancels.{by_number, has_lower_number}
 use Rattle.book.specs.Picks.{picks}
-use Rattle.book.specs.Reads.{order_of, blank_entry}
+use Rattle.book.specs.Reads.{order_of, leaving_order}
 use Rattle.book.proofs.Loops.{collected, not_collected, none_collected}
+use Rattle.book.proofs.Places.{length_inserted}
 use Rattle.book.proofs.taking.collect.Goals as goal
-use Rattle.book.proofs.taking.collect.Goals.{then-picks, else-picks}
 
-pub loop-i-init : goal.loop-i-init
-loop-i-init c = (none_collected (picks c.args.picked.now) (map order_of (take c.args.n c.args.entries.now)) (c.args.n - 0) (let a = length-map (take c.args.n c.args.entries.now) order_of in let b = length-take-le c.args.n c.args.entries.now c.requires.0 in omega arith), omega arith, refl)
+pub loop-entry-init : goal.loop-entry-init
+loop-entry-init c = record {
+  collected = ap (map leaving_order) c.new-orders.ensures ∙ none_collected (picks c.args.picked.now) (map order_of c.args.entries.now) _ (omega (arith, length-map c.args.entries.now order_of));
+  few = omega (arith, ap length c.new-orders.ensures);
+}
 
-pub loop-i-preserved : goal.loop-i-preserved
-loop-i-preserved c =
-    let xs = c.args.entries.now in
-    let n = c.args.n in
-    let i = c.loop-i.i in
-    let p = picks c.args.picked.now in
-    elim c.if-picks.branch [
-      | then-picks w ↦ rw (w.orders-is, w.count-is) (collected p xs n i blank_entry c.loop-i-test.true c.requires.0 c.loop-i.count c.loop-i.orders w.insert.new.row (omega (arith, c.loop-i.invariant.1, c.loop-i.invariant.2)) c.loop-i.invariant.0 (sym c.picks.ensures ∙ w.if-picks.true) w.insert.ensures.after, omega (arith, c.loop-i.invariant.1), w.insert.auto.row ∙ c.loop-i.invariant.2)
-      | else-picks w ↦ rw (w.orders-is, w.count-is) (not_collected p xs n i blank_entry c.loop-i-test.true c.requires.0 _ c.loop-i.invariant.0 (sym c.picks.ensures ∙ w.if-picks.false), omega (arith, c.loop-i.invariant.1), c.loop-i.invariant.2)
-    ]
+pub put_in_order-requires : goal.put_in_order-requires
+put_in_order-requires c =
+    let t = YieldsList-turn (YieldsList-from_rev_slice c.args.entries.now cc) c.loop-entry.yielded _ c.loop-entry.yielded_by _ _ c.in-Some.entry c.in-Some.is c.next.ensures.steps in
+    (lit< tt, omega (arith, t.0, length-reverse c.args.entries.now, c.loop-entry.invariant.few, c.requires))
+
+pub loop-entry-preserved-then-picks : goal.loop-entry-preserved-then-picks
+loop-entry-preserved-then-picks c =
+    let t = YieldsList-turn (YieldsList-from_rev_slice c.args.entries.now cc) c.loop-entry.yielded _ c.loop-entry.yielded_by _ _ c.in-Some.entry c.in-Some.is c.next.ensures.steps in
+    let one_more = length_push c.loop-entry.yielded c.in-Some.entry in
+    record {
+      collected = collected (picks c.args.picked.now) c.args.entries.now (length c.loop-entry.yielded) c.in-Some.entry.now (omega (arith, t.0, length-reverse c.args.entries.now)) t.1 c.loop-entry.orders.items c.put_in_order.new.entries.items c.loop-entry.invariant.collected (sym c.picks.ensures ∙ c.if-picks.true) c.put_in_order.ensures
+          ∙ ap (λ n. by_number (filter (picks c.args.picked.now) (drop (length c.args.entries.now - n) (map order_of c.args.entries.now)))) (sym one_more);
+      few = omega (arith, c.loop-entry.invariant.few, one_more, ap length c.put_in_order.ensures, length_inserted (λ a b. has_lower_number (leaving_order a) (leaving_order b)) (record { 0 = order_of c.in-Some.entry.now }) c.loop-entry.orders.items);
+    }
+
+pub loop-entry-preserved : goal.loop-entry-preserved
+loop-entry-preserved c =
+    let t = YieldsList-turn (YieldsList-from_rev_slice c.args.entries.now cc) c.loop-entry.yielded _ c.loop-entry.yielded_by _ _ c.in-Some.entry c.in-Some.is c.next.ensures.steps in
+    let one_more = length_push c.loop-entry.yielded c.in-Some.entry in
+    record {
+      collected = not_collected (picks c.args.picked.now) c.args.entries.now (length c.loop-entry.yielded) c.in-Some.entry.now (omega (arith, t.0, length-reverse c.args.entries.now)) t.1 (map leaving_order c.loop-entry.orders.items) c.loop-entry.invariant.collected (sym c.picks.ensures ∙ c.if-picks.false)
+          ∙ ap (λ n. by_number (filter (picks c.args.picked.now) (drop (length c.args.entries.now - n) (map order_of c.args.entries.now)))) (sym one_more);
+      few = omega (arith, c.loop-entry.invariant.few, one_more);
+    }
 
 pub returns : goal.returns
 returns c =
-    let all : c.args.n - c.loop-i.i ≡ 0 = omega arith in
-    c.loop-i.invariant.0 ∙ ap (λ k. by_number (filter (picks c.args.picked.now) (drop k (map order_of (take c.args.n c.args.entries.now))))) all
+    let t = YieldsList-end (YieldsList-from_rev_slice c.args.entries.now cc) c.loop-entry.yielded _ c.loop-entry.yielded_by _ _ c.in-None.is c.next.ensures.steps in
+    let all : length c.args.entries.now - length c.loop-entry.yielded ≡ 0 = omega (arith, t.1, length-reverse c.args.entries.now) in
+    c.loop-entry.invariant.collected ∙ ap (λ k. by_number (filter (picks c.args.picked.now) (drop k (map order_of c.args.entries.now)))) all

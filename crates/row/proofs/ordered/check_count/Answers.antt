@@ -1,5 +1,3 @@
-use Rattle.std.proofs.Common.{length, sym, arith}
-use Rattle.std.proofs.lemmas.Bool.{lt-ltb, le-ltb, cond-true, cond-false}
 use Rattle.row.specs.Laws.{RowLaws}
 use Rattle.row.proofs.Orders.{row_laws}
 use Rattle.row.proofs.ordered.check_count.Given as given
@@ -11,8 +9,8 @@ laws g =
     g.met.E.Precedence.test_says_precedes g.met.E.Precedence.precedes_passes_test
     g.met.E.Precedence.one_way g.met.E.Precedence.not_preceding_carries
 
-pub returns-then-n-row : goal.returns-then-n-row
-returns-then-n-row g c = record { answer = sym (cond-true _ _ _ (lt-ltb (length c.args.row.now) c.args.n (omega arith))); laws = laws g }
+pub returns-then-n-row-clause-laws : goal.returns-then-n-row-clause-laws
+returns-then-n-row-clause-laws g c = laws g
 
-pub returns : goal.returns
-returns g c = record { answer = sym (cond-false _ _ _ (le-ltb (length c.args.row.now) c.args.n (omega arith))); laws = laws g }
+pub returns-clause-laws : goal.returns-clause-laws
+returns-clause-laws g c = laws g

@@ -1,0 +1,17 @@
+ghost use Rattle.std.specs.Prelude.{◌≡◌, ◌<◌};
+ghost use Rattle.arrayvec.specs.ArrayVec.{array_vec_len};
+ghost use Rattle.row.specs.Rows.{inserted};
+
+use crate::books::PLACES;
+use arrayvec::ArrayVec;
+use row::precedence::Precedence;
+
+// Puts an entry where its precedence says. There has to be room.
+pub(crate) fn put_in_order<E: Precedence>(entries: &mut ArrayVec<E, PLACES>, entry: E)
+    requires { array_vec_len entries.old < 256 }
+    ensures { entries.new.items ≡ inserted E.Precedence.test entry entries.old.items }
+{
+    let n = entries.len();
+    entries.push(entry);
+    let _ = row::insert(entries.as_mut_slice(), n, entry);
+}

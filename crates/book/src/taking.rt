@@ -107,10 +107,5 @@ impl Taken {
 fn cancelled(reason: Reason, leaving: &Leaving) -> Event
     ensures { result ≡ cancelled reason leaving.now.0 }
 {
-    Event::Cancelled(Cancellation {
-        number: leaving.0.number,
-        member: leaving.0.member,
-        lots: leaving.0.lots,
-        reason,
-    })
+    Event::Cancelled(Cancellation::of(&leaving.0, reason))
 }

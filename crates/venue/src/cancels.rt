@@ -1,4 +1,4 @@
-ghost use Rattle.std.specs.Prelude.{◌≡◌, ◌+◌, ◌≤◌, length, Ok};
+ghost use Rattle.std.specs.Prelude.{◌≡◌, ◌+◌, ◌≤◌, length, OnOk};
 ghost use Rattle.market.specs.declared.calls.Answer.TheVariants.{Cancelled as CancelledCount};
 ghost use Rattle.market.specs.declared.calls.Call.TheVariants.{Cancel, CancelAll, Close};
 ghost use Rattle.market.specs.Cancels.{cancelling};
@@ -31,6 +31,17 @@ impl<K: Keeper> Venue<K> {
         }
     }
 
+    // The same of a whole call: its list of events begins with these, and it answers how many they are.
+    #[tactic(auto, using(crate::proofs::Checks::pending_few))]
+    fn cancel_all_picked(&mut self, picked: Picked, reason: Reason, events: &mut [Event]) -> usize
+        requires { 257 ≤ length events.old }
+        ensures { Did (cancelling (picks picked) reason (market_of K.Keeper.sheet self.old)) (market_of K.Keeper.sheet self.new) events.old events.new 0 result }
+    {
+        let mut list = EventList::of(events);
+        self.cancel_picked(picked, reason, &mut list);
+        list.told
+    }
+
     /// Cancels a member's pending order of this number, and answers how many events it told.
     pub fn cancel(
         &mut self,
@@ -41,7 +52,7 @@ impl<K: Keeper> Venue<K> {
         ensures { Obeys K.Keeper.charge K.Keeper.REACH (Cancel member number) (market_of K.Keeper.sheet self.old) (market_of K.Keeper.sheet self.new) (as_answer CancelledCount result) events.old events.new }
     {
         self.check_cancel(member, number, events.len())?;
-        Ok(self.cancel_one(member, number, events))
+        Ok(self.cancel_all_picked(Picked::One { member, number }, Reason::Asked, events))
     }
 
     /// Cancels all of a member's pending orders, lowest number first, and answers how many events it told.
@@ -49,7 +60,7 @@ impl<K: Keeper> Venue<K> {
         ensures { Obeys K.Keeper.charge K.Keeper.REACH (CancelAll member) (market_of K.Keeper.sheet self.old) (market_of K.Keeper.sheet self.new) (as_answer CancelledCount result) events.old events.new }
     {
         self.check_cancel_all(member, events.len())?;
-        Ok(self.cancel_of(member, events))
+        Ok(self.cancel_all_picked(Picked::OfMember(member), Reason::Asked, events))
     }
 
     /// Ends the day: cancels all pending orders, lowest number first, and answers how many events it told.
@@ -57,19 +68,22 @@ impl<K: Keeper> Venue<K> {
         ensures { Obeys K.Keeper.charge K.Keeper.REACH Close (market_of K.Keeper.sheet self.old) (market_of K.Keeper.sheet self.new) (as_answer CancelledCount result) events.old events.new }
     {
         self.check_open_with(events.len())?;
-        Ok(self.close_checked(events))
+        self.phase = Phase::Closed;
+        Ok(self.cancel_all_picked(Picked::All, Reason::Closing, events))
     }
 
     // Every call that tells events belongs to the open phase.
     pub(crate) fn check_open_with(&self, places: usize) -> Result<(), Refusal>
-        ensures { result ≡ checked (close_grounds places (market_of K.Keeper.sheet self.now)) }
+        ensures checked { result ≡ checked (close_grounds places (market_of K.Keeper.sheet self.now)) }
+        ensures long { OnOk result (257 ≤ places) }
     {
         check_list(places)?;
         check_open(self.phase)
     }
 
     fn check_cancel_all(&self, member: u8, places: usize) -> Result<(), Refusal>
-        ensures { result ≡ checked (cancel_all_grounds places (market_of K.Keeper.sheet self.now) member) }
+        ensures checked { result ≡ checked (cancel_all_grounds places (market_of K.Keeper.sheet self.now) member) }
+        ensures long { OnOk result (257 ≤ places) }
     {
         self.check_open_with(places)?;
         self.members.admitted(member)?;
@@ -77,49 +91,13 @@ impl<K: Keeper> Venue<K> {
     }
 
     fn check_cancel(&self, member: u8, number: u16, places: usize) -> Result<(), Refusal>
-        ensures { result ≡ checked (cancel_grounds places (market_of K.Keeper.sheet self.now) member number) }
+        ensures checked { result ≡ checked (cancel_grounds places (market_of K.Keeper.sheet self.now) member number) }
+        ensures long { OnOk result (257 ≤ places) }
     {
         self.check_cancel_all(member, places)?;
         if !self.book.has(&Picked::One { member, number }) {
             return Err(Refusal::NoSuchOrder);
         }
         Ok(())
-    }
-
-    fn cancel_one(&mut self, member: u8, number: u16, events: &mut [Event]) -> usize
-        requires { Ok tt ≡ checked (cancel_grounds (length events.old) (market_of K.Keeper.sheet self.old) member number) }
-        ensures { Obeys K.Keeper.charge K.Keeper.REACH (Cancel member number) (market_of K.Keeper.sheet self.old) (market_of K.Keeper.sheet self.new) (Ok (CancelledCount result)) events.old events.new }
-    {
-        let mut list = EventList {
-            places: events,
-            told: 0,
-        };
-        self.cancel_picked(Picked::One { member, number }, Reason::Asked, &mut list);
-        list.told
-    }
-
-    fn cancel_of(&mut self, member: u8, events: &mut [Event]) -> usize
-        requires { Ok tt ≡ checked (cancel_all_grounds (length events.old) (market_of K.Keeper.sheet self.old) member) }
-        ensures { Obeys K.Keeper.charge K.Keeper.REACH (CancelAll member) (market_of K.Keeper.sheet self.old) (market_of K.Keeper.sheet self.new) (Ok (CancelledCount result)) events.old events.new }
-    {
-        let mut list = EventList {
-            places: events,
-            told: 0,
-        };
-        self.cancel_picked(Picked::OfMember(member), Reason::Asked, &mut list);
-        list.told
-    }
-
-    fn close_checked(&mut self, events: &mut [Event]) -> usize
-        requires { Ok tt ≡ checked (close_grounds (length events.old) (market_of K.Keeper.sheet self.old)) }
-        ensures { Obeys K.Keeper.charge K.Keeper.REACH Close (market_of K.Keeper.sheet self.old) (market_of K.Keeper.sheet self.new) (Ok (CancelledCount result)) events.old events.new }
-    {
-        self.phase = Phase::Closed;
-        let mut list = EventList {
-            places: events,
-            told: 0,
-        };
-        self.cancel_picked(Picked::All, Reason::Closing, &mut list);
-        list.told
     }
 }

@@ -13,7 +13,16 @@ pub(crate) struct EventList<'a> {
     pub(crate) told: usize,
 }
 
-impl EventList<'_> {
+impl<'a> EventList<'a> {
+    /// A list with nothing told yet.
+    pub(crate) fn of(places: &'a mut [Event]) -> EventList<'a>
+        ensures same_list { result.places.ghost_name ≡ places.entry.ghost_name }
+        ensures places { result.places.now ≡ places.old }
+        ensures told { result.told ≡ 0 }
+    {
+        EventList { places, told: 0 }
+    }
+
     pub(crate) fn tell(&mut self, event: Event)
         requires { self.old.told < length self.old.places.now }
         ensures same_list { self.new.places.ghost_name ≡ self.old.places.ghost_name }

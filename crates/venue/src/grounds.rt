@@ -1,4 +1,4 @@
-ghost use Rattle.std.specs.Prelude.{◌≡◌, [], ◌∷◌, not, ◌||◌};
+ghost use Rattle.std.specs.Prelude.{◌≡◌, ◌≤◌, [], ◌∷◌, not, ◌||◌, OnOk};
 ghost use Rattle.market.specs.declared.refusals.Refusal.TheVariants.{ListTooShort as TooShort, WrongPhase as Wrong};
 ghost use Rattle.market.specs.Grounds.{checked, ◌when◌, is_short, is_set_up, is_open};
 
@@ -10,7 +10,8 @@ use market::refusals::Refusal;
 
 /// A list that is lent for events or for a listing.
 pub(crate) fn check_list(places: usize) -> Result<(), Refusal>
-    ensures { result ≡ checked ((TooShort when is_short places) ∷ []) }
+    ensures checked { result ≡ checked ((TooShort when is_short places) ∷ []) }
+    ensures long { OnOk result (257 ≤ places) }
 {
     if places < LIST_PLACES {
         return Err(Refusal::ListTooShort);

@@ -194,10 +194,7 @@ impl<K: Keeper> Venue<K> {
         requires { Ok tt ≡ checked (place_grounds K.Keeper.charge K.Keeper.REACH (length events.old) (market_of K.Keeper.sheet self.old) new.now) }
         ensures { Obeys K.Keeper.charge K.Keeper.REACH (Place new.now) (market_of K.Keeper.sheet self.old) (market_of K.Keeper.sheet self.new) (Ok (PlacedAs result)) events.old events.new }
     {
-        let mut list = EventList {
-            places: events,
-            told: 0,
-        };
+        let mut list = EventList::of(events);
         let number = self.take_in(new, &mut list);
         Placed {
             number,

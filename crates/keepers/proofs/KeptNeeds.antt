@@ -1,5 +1,5 @@
 -- What the running keeper keeps stays each member's need.
-use Rattle.std.proofs.Common.{◌≡◌, ℕ, ◌<◌, true, cond, ◌&&◌, eqb, ltb, leb, List, length, get_or, set, Ok, Result, sym, refl, ap, ◌∙◌, subst, ap₂, ⊎_elim, arith}
+use Rattle.std.proofs.Common.{◌≡◌, ℕ, zero, suc, ◌<◌, true, cond, ◌&&◌, eqb, ltb, leb, List, length, get_or, set, replicate, Ok, Result, sym, refl, ap, ◌∙◌, subst, ap₂, ⊎_elim, arith}
 use mathlib.Core.Path.{fun_ext}
 use Rattle.std.proofs.lemmas.List.{get_or-set_same, get_or-set_other}
 use Rattle.std.proofs.lemmas.Bool.{cond_both, cond-true, and_parts, cases_eq, eqb-true, ltb-true}
@@ -15,6 +15,11 @@ use Rattle.positions.specs.Reads.{sheet_of}
 use Rattle.positions.specs.Amounts.{standard_none}
 use Rattle.positions.proofs.Sheets.{sheet_lawful}
 use Rattle.positions.proofs.Sums.{summed_none}
+
+pub zero_at : (n m : ℕ) → ◌≡◌ {A = ℕ} (get_or (replicate n 0) m 0) 0
+zero_at zero m = refl
+zero_at (suc n) zero = refl
+zero_at (suc n) (suc m) = zero_at n m
 
 pub fresh_need : {reach : ℕ} (table : LotsTable reach) → sheet_of table ≡ fresh_sheet → (m : ℕ) → need_of (summed standard_amount) (sheet_of table) m ≡ 0
 fresh_need table fresh m =

@@ -1,9 +1,8 @@
 -- The sheet that a table of lots means, as one instrument of the table is written.
-use Rattle.std.proofs.Common.{◌≡◌, ℕ, zero, suc, ◌+◌, ◌<◌, ◌≤◌, Bool, true, false, cond, not, ◌&&◌, eqb, leb, List, length, get_or, set, replicate, sym, refl, ap, ◌∙◌, subst, ap₂, ⊎_elim, arith}
+use Rattle.std.proofs.Common.{◌≡◌, ℕ, ◌+◌, ◌<◌, ◌≤◌, Bool, true, false, cond, not, ◌&&◌, eqb, leb, List, length, get_or, set, replicate, sym, refl, ap, ◌∙◌, subst, ap₂, ⊎_elim, arith}
 use mathlib.Core.Path.{fun_ext}
 use Rattle.std.proofs.lemmas.Bool.{lt-ltb, leb-true, eqb-false, not-true, and_parts, cond-true, cond-false, cases_Bool}
 use Rattle.terms.specs.declared.Side.{Side}
-use Rattle.terms.specs.declared.Side.TheVariants.{Bid, Offer}
 use Rattle.terms.specs.Tables.{put}
 use Rattle.terms.proofs.Tables.{put_cases, put_same, column_at, column_past, column_set, column_all, column_follows, column_replicate}
 use Rattle.margin.specs.Sheets.{Sheet, Totals, no_lots, raised, fresh_sheet, can_set_factor, with_factor, after_set_factor, can_record, recorded, after_record}
@@ -122,8 +121,3 @@ pub fresh_table : {reach : ℕ} (x : InstrumentLots reach) → x.factor ≡ 0 �
 fresh_table x no_factor empty =
     sheet_eq _ _ _ _ (column_replicate 16 16 x (λ y. y.factor) no_factor)
     (fun_ext (λ m. fun_ext (λ s. column_replicate 16 16 x (λ y. lots_in y s m) (ap (λ (z : Side → ℕ → ℕ). z s m) empty))))
-
-pub zero_at : (n m : ℕ) → ◌≡◌ {A = ℕ} (get_or (replicate n 0) m 0) 0
-zero_at zero m = refl
-zero_at (suc n) zero = refl
-zero_at (suc n) (suc m) = zero_at n m

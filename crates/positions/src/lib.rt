@@ -7,4 +7,4 @@ pub mod lots;
 mod places;
 pub mod table;
 pub mod tariff;
-pub mod totals;
+mod totals;

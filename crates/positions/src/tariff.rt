@@ -19,11 +19,11 @@ pub trait Tariff {
 }
 
 /// The standard charge: factor × (2 × the larger total − the smaller).
-#[derive(Clone, Copy)]
+#[derive(Clone, Copy, Default)]
 pub struct Standard;
 
 /// The gross charge, with no offset of lots bought against lots sold: 2 × factor × (bought + sold).
-#[derive(Clone, Copy)]
+#[derive(Clone, Copy, Default)]
 pub struct Gross;
 
 impl Tariff for Standard {

@@ -7,7 +7,7 @@ use terms::Side;
 
 /// One member's two totals in one instrument.
 #[derive(Clone, Copy, Default)]
-pub struct MemberLots {
+pub(crate) struct MemberLots {
     pub(crate) bought: u32,
     pub(crate) sold: u32,
 }

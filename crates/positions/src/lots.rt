@@ -30,7 +30,7 @@ pub struct AmountChange {
 
 /// One instrument: its factor, and each member's lots. There are none where there is no factor.
 ///
-/// A factor of 0 stands for none: what is charged on it is 0, as it has to be, with no case of its own.
+/// A factor of 0 and not an `Option`: on no lots every tariff charges 0, so that it needs no case of its own.
 #[derive(Clone, Copy)]
 pub struct InstrumentLots<const REACH: u32> {
     pub(crate) factor: u32,

@@ -3,7 +3,7 @@ ghost use Rattle.std.specs.Prelude.{◌<◌};
 use crate::lots::{INSTRUMENTS, MEMBERS};
 use margin::refusal::KeeperRefusal;
 
-/// A number that has a place in a table of so many.
+/// A place in a table of `COUNT` places, by its number.
 #[derive(Clone, Copy)]
 pub(crate) struct Place<const COUNT: usize> {
     pub(crate) number: usize,

@@ -139,7 +139,7 @@ impl<const REACH: u32> LotsTable<REACH> {
     fn charge_at<T: Tariff>(&self, tariff: &T, m: MemberPlace) -> u64
         ensures { result ≡ summed T.Tariff.charged (sheet_of self.now).factor ((sheet_of self.now).held m.number) }
     {
-        // Not an iterator's `sum`: nothing is read off a closure in generic code, and that the sum fits follows from the tariff's laws.
+        // Not `iter().map(..).sum()`: that was tried, and the check reads nothing off a closure in generic code.
         let mut sum = 0;
         for instrument in &self.instruments {
             sum += tariff.amount(instrument.position(m));

@@ -139,7 +139,8 @@ impl<const REACH: u32> LotsTable<REACH> {
     fn charge_at<T: Tariff>(&self, tariff: &T, m: MemberPlace) -> u64
         ensures { result ≡ summed T.Tariff.charged (sheet_of self.now).factor ((sheet_of self.now).held m.number) }
     {
-        // Not `iter().map(..).sum()`: that was tried, and the check reads nothing off a closure in generic code.
+        // Not `iter().map(..).sum()`, as tried: in generic code its closure needs an `ensures` that is longer than this loop,
+        // and with it the check finds neither that the sum fits nor what it is.
         let mut sum = 0;
         for instrument in &self.instruments {
             sum += tariff.amount(instrument.position(m));

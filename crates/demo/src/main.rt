@@ -7,8 +7,8 @@ mod script;
 mod show;
 
 use crate::desk::Desk;
-use crate::script::{FACTOR_CALLS, INSTRUMENTS, MEMBERS, STEPS, Step};
-use crate::show::{deposit, grouped, instrument_name, member_name, percentage, verb};
+use crate::script::{FACTOR_CALLS, INSTRUMENTS, MEMBERS, Question, STEPS, Step, Trade};
+use crate::show::{grouped, instrument_name, member_name, percentage, verb};
 use margin::keeper::Keeper;
 use std::io;
 use terms::Side;
@@ -68,46 +68,37 @@ fn tell_need(rt: &HostRuntime, desk: &Desk, member: u8) -> io::Result<()> {
     )
 }
 
-fn tell_trade(rt: &HostRuntime, desk: &mut Desk, step: &Step) -> io::Result<()> {
-    let Step::Trade {
-        time,
-        buyer,
-        seller,
-        instrument,
-        lots,
-        note,
-    } = step
-    else {
-        return Ok(());
-    };
-    let answer = if desk.trade(*buyer, *seller, *instrument, *lots).is_ok() {
+fn tell_trade(rt: &HostRuntime, desk: &mut Desk, trade: &Trade) -> io::Result<()> {
+    let answer = if desk
+        .trade(trade.buyer, trade.seller, trade.instrument, trade.lots)
+        .is_ok()
+    {
         "recorded"
     } else {
         "REFUSED"
     };
-    let count = grouped(rt.alloc(), u64::from(*lots))?;
+    let count = grouped(rt.alloc(), u64::from(trade.lots))?;
     println!(rt;
-        "  {time}  {} buys {count} lots of instrument {instrument} from {}: {answer}",
-        member_name(*buyer),
-        member_name(*seller)
+        "  {}  {} buys {count} lots of instrument {} from {}: {answer}",
+        trade.time,
+        member_name(trade.buyer),
+        trade.instrument,
+        member_name(trade.seller)
     )?;
-    tell_note(rt, note)?;
-    tell_need(rt, desk, *buyer)?;
-    tell_need(rt, desk, *seller)
+    tell_note(rt, trade.note)?;
+    tell_need(rt, desk, trade.buyer)?;
+    tell_need(rt, desk, trade.seller)
 }
 
-fn tell_question(rt: &HostRuntime, desk: &Desk, step: &Step) -> io::Result<()> {
-    let Step::Question {
+fn tell_question(rt: &HostRuntime, desk: &Desk, question: &Question) -> io::Result<()> {
+    let Question {
         time,
         member,
         side,
         instrument,
         lots,
         note,
-    } = step
-    else {
-        return Ok(());
-    };
+    } = question;
     println!(rt;
         "  {time}  {} asks: what if I {} {lots} lots of instrument {instrument}?",
         member_name(*member),
@@ -128,8 +119,10 @@ fn deal(rt: &HostRuntime, desk: &mut Desk) -> io::Result<()> {
     println!(rt; "\n3. The members deal")?;
     for step in &STEPS {
         println!(rt; "")?;
-        tell_trade(rt, desk, step)?;
-        tell_question(rt, desk, step)?;
+        match step {
+            Step::Trade(trade) => tell_trade(rt, desk, trade)?,
+            Step::Question(question) => tell_question(rt, desk, question)?,
+        }
     }
     Ok(())
 }
@@ -186,12 +179,12 @@ fn compare_use(rt: &HostRuntime, desk: &Desk, member: u8) -> io::Result<()> {
 
 fn close(rt: &HostRuntime, desk: &Desk) -> io::Result<()> {
     println!(rt; "\n4. Closing statements")?;
-    for number in 0..MEMBERS.len() as u8 {
-        let amount = grouped(rt.alloc(), deposit(number))?;
+    for (number, member) in (0u8..).zip(MEMBERS.iter()) {
+        let amount = grouped(rt.alloc(), member.deposit)?;
         println!(rt; "")?;
         println!(rt;
             "  member {number}  {}, deposit {amount} half-rupees",
-            member_name(number)
+            member.name
         )?;
         list_lots(rt, desk, number)?;
         compare_needs(rt, desk, number)?;

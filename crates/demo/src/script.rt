@@ -20,26 +20,30 @@ pub struct FactorCall {
     pub note: &'static str,
 }
 
+/// A trade is reported.
+pub struct Trade {
+    pub time: &'static str,
+    pub buyer: u8,
+    pub seller: u8,
+    pub instrument: u8,
+    pub lots: u32,
+    pub note: &'static str,
+}
+
+/// A member asks what a trade would make of its need.
+pub struct Question {
+    pub time: &'static str,
+    pub member: u8,
+    pub side: Side,
+    pub instrument: u8,
+    pub lots: u32,
+    pub note: &'static str,
+}
+
 /// What happens while members deal, with a note on what it shows.
 pub enum Step {
-    /// A trade is reported.
-    Trade {
-        time: &'static str,
-        buyer: u8,
-        seller: u8,
-        instrument: u8,
-        lots: u32,
-        note: &'static str,
-    },
-    /// A member asks what a trade would make of its need.
-    Question {
-        time: &'static str,
-        member: u8,
-        side: Side,
-        instrument: u8,
-        lots: u32,
-        note: &'static str,
-    },
+    Trade(Trade),
+    Question(Question),
 }
 
 pub static MEMBERS: [Member; 3] = [
@@ -93,68 +97,68 @@ pub static FACTOR_CALLS: [FactorCall; 4] = [
 ];
 
 pub static STEPS: [Step; 8] = [
-    Step::Trade {
+    Step::Trade(Trade {
         time: "09:15",
         buyer: 0,
         seller: 2,
         instrument: 0,
         lots: 5,
         note: "Each lot on one side is charged the factor: 100 rupees, which are 200 half-rupees.",
-    },
-    Step::Trade {
+    }),
+    Step::Trade(Trade {
         time: "09:20",
         buyer: 1,
         seller: 2,
         instrument: 0,
         lots: 4,
         note: "The seller's need grows close to its deposit.",
-    },
-    Step::Question {
+    }),
+    Step::Question(Question {
         time: "09:28",
         member: 2,
         side: Side::Bid,
         instrument: 0,
         lots: 4,
         note: "Asking records nothing. Half of the smaller total is offset against the larger.",
-    },
-    Step::Trade {
+    }),
+    Step::Trade(Trade {
         time: "09:31",
         buyer: 2,
         seller: 0,
         instrument: 0,
         lots: 4,
         note: "The buyer's need is what it was told.",
-    },
-    Step::Trade {
+    }),
+    Step::Trade(Trade {
         time: "09:40",
         buyer: 0,
         seller: 1,
         instrument: 7,
         lots: 10,
         note: "Instrument 7 has no factor. Nothing is recorded, for either member.",
-    },
-    Step::Trade {
+    }),
+    Step::Trade(Trade {
         time: "09:41",
         buyer: 0,
         seller: 1,
         instrument: 1,
         lots: 10,
         note: "The instrument that was meant.",
-    },
-    Step::Trade {
+    }),
+    Step::Trade(Trade {
         time: "09:50",
         buyer: 0,
         seller: 1,
         instrument: 1,
         lots: 100_000,
         note: "100,000 was typed for 10: the totals would pass the keepers' reach of 100,000 lots.",
-    },
-    Step::Trade {
+    }),
+    Step::Trade(Trade {
         time: "10:00",
         buyer: 1,
         seller: 0,
         instrument: 2,
         lots: 20,
         note: "Instruments are charged one by one; there is no offset between them.",
-    },
+    }),
 ];

@@ -32,24 +32,19 @@ pub(crate) fn percentage<K: Keeper>(
 }
 
 pub(crate) fn deposit(member: u8) -> u64 {
-    match MEMBERS.get(member as usize) {
-        Some(m) => m.deposit,
-        None => 0,
-    }
+    MEMBERS.get(usize::from(member)).map_or(0, |m| m.deposit)
 }
 
 pub(crate) fn member_name(member: u8) -> &'static str {
-    match MEMBERS.get(member as usize) {
-        Some(m) => m.name,
-        None => "nobody",
-    }
+    MEMBERS
+        .get(usize::from(member))
+        .map_or("nobody", |m| m.name)
 }
 
 pub(crate) fn instrument_name(instrument: u8) -> &'static str {
-    match INSTRUMENTS.get(instrument as usize) {
-        Some(i) => i.name,
-        None => "not known",
-    }
+    INSTRUMENTS
+        .get(usize::from(instrument))
+        .map_or("not known", |i| i.name)
 }
 
 pub(crate) fn verb(side: Side) -> &'static str {

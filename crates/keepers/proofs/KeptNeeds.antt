@@ -1,5 +1,5 @@
 -- What the running keeper keeps stays each member's need.
-use Rattle.std.proofs.Common.{◌≡◌, ℕ, ◌<◌, true, cond, ◌&&◌, eqb, ltb, leb, List, length, get_or, set, Ok, Result, sym, refl, ap, ◌∙◌, subst, ap₂, ⊎_elim, arith}
+use Rattle.std.proofs.Common.{◌≡◌, ℕ, zero, suc, ◌<◌, true, cond, ◌&&◌, eqb, ltb, leb, List, length, get_or, set, replicate, Ok, Result, sym, refl, ap, ◌∙◌, subst, ap₂, ⊎_elim, arith}
 use mathlib.Core.Path.{fun_ext}
 use Rattle.std.proofs.lemmas.List.{get_or-set_same, get_or-set_other}
 use Rattle.std.proofs.lemmas.Bool.{cond_both, cond-true, and_parts, cases_eq, eqb-true, ltb-true}
@@ -16,9 +16,18 @@ use Rattle.positions.specs.Amounts.{standard_none}
 use Rattle.positions.proofs.Sheets.{sheet_lawful}
 use Rattle.positions.proofs.Sums.{summed_none}
 
-pub fresh_need : {reach : ℕ} (table : LotsTable reach) → sheet_of table ≡ fresh_sheet → (m : ℕ) → need_of (summed standard_amount) (sheet_of table) m ≡ 0
+-- What the running keeper keeps of each member.
+abbrev standard_need : Sheet → ℕ → ℕ
+standard_need = need_of (summed standard_amount)
+
+pub zero_at : (n m : ℕ) → ◌≡◌ {A = ℕ} (get_or (replicate n 0) m 0) 0
+zero_at zero m = refl
+zero_at (suc n) zero = refl
+zero_at (suc n) (suc m) = zero_at n m
+
+pub fresh_need : {reach : ℕ} (table : LotsTable reach) → sheet_of table ≡ fresh_sheet → (m : ℕ) → standard_need (sheet_of table) m ≡ 0
 fresh_need table fresh m =
-    ap (λ (k : Sheet). need_of (summed standard_amount) k m) fresh
+    ap (λ (k : Sheet). standard_need k m) fresh
     ∙ cond_both (ltb m 32) (summed standard_amount (λ _. 0) no_lots) 0 (λ z. z ≡ 0) (λ _. summed_none standard_amount standard_none (λ _. 0)) (λ _. refl)
 
 -- A factor set where there was none meets no lots, so it changes no charge.
@@ -37,39 +46,39 @@ unused_factor k i f m none empty = ap (sum_below 16) (fun_ext place)
         (λ e. idle j f e ∙ sym (idle j (k.factor j) e)) (λ _. refl)
 
 pub need_after_set_factor : {reach : ℕ} (before after : LotsTable reach) (i f : ℕ) → sheet_of after ≡ after_set_factor (sheet_of before) i f
-    → (m : ℕ) → need_of (summed standard_amount) (sheet_of before) m ≡ need_of (summed standard_amount) (sheet_of after) m
-need_after_set_factor before after i f e m = sym (ap (λ (k : Sheet). need_of (summed standard_amount) k m) e ∙ cond_both (can_set_factor (sheet_of before) i f) (with_factor (sheet_of before) i f) (sheet_of before) (λ (k : Sheet). need_of (summed standard_amount) k m ≡ need_of (summed standard_amount) (sheet_of before) m) set_now (λ _. refl))
+    → (m : ℕ) → standard_need (sheet_of before) m ≡ standard_need (sheet_of after) m
+need_after_set_factor before after i f e m = sym (ap (λ (k : Sheet). standard_need k m) e ∙ cond_both (can_set_factor (sheet_of before) i f) (with_factor (sheet_of before) i f) (sheet_of before) (λ (k : Sheet). standard_need k m ≡ standard_need (sheet_of before) m) set_now (λ _. refl))
   where
-    set_now : can_set_factor (sheet_of before) i f ≡ true → need_of (summed standard_amount) (with_factor (sheet_of before) i f) m ≡ need_of (summed standard_amount) (sheet_of before) m
+    set_now : can_set_factor (sheet_of before) i f ≡ true → standard_need (with_factor (sheet_of before) i f) m ≡ standard_need (sheet_of before) m
     set_now can =
         let none : (sheet_of before).factor i ≡ 0 = eqb-true ((sheet_of before).factor i) 0 (and_parts (eqb ((sheet_of before).factor i) 0) (leb 1 f && leb f 100000) (and_parts (ltb i 16) (eqb ((sheet_of before).factor i) 0 && (leb 1 f && leb f 100000)) can).1).0 in
         ap (λ z. cond (ltb m 32) z 0) (unused_factor (sheet_of before) i f m none (λ s. (sheet_lawful before).no_factor_no_lots m s i))
 
 -- A record changes one member's need, to what need with answered before it.
 pub need_after_record : {reach : ℕ} (before after : LotsTable reach) (needs : List ℕ) (within m i : ℕ) (s : Side) (q need : ℕ)
-    → ((k : ℕ) → get_or needs k 0 ≡ need_of (summed standard_amount) (sheet_of before) k)
+    → ((k : ℕ) → get_or needs k 0 ≡ standard_need (sheet_of before) k)
     → length needs ≡ 32
     → ◌≡◌ {A = Result ℕ KeeperRefusal} (Ok need) (need_with (summed standard_amount) within (sheet_of before) m i s q)
     → true ≡ can_record within (sheet_of before) m i s q
     → sheet_of after ≡ after_record within (sheet_of before) m i s q
-    → (k : ℕ) → get_or (set needs m need) k 0 ≡ need_of (summed standard_amount) (sheet_of after) k
+    → (k : ℕ) → get_or (set needs m need) k 0 ≡ standard_need (sheet_of after) k
 need_after_record before after needs within m i s q need kept size asked can done k = ⊎_elim own other (cases_eq m k)
   where
-    now : (j : ℕ) → need_of (summed standard_amount) (recorded (sheet_of before) m i s q) j ≡ need_of (summed standard_amount) (sheet_of after) j
-    now j = ap (λ (z : Sheet). need_of (summed standard_amount) z j) (sym (done ∙ cond-true (can_record within (sheet_of before) m i s q) (recorded (sheet_of before) m i s q) (sheet_of before) (sym can)))
+    now : (j : ℕ) → standard_need (recorded (sheet_of before) m i s q) j ≡ standard_need (sheet_of after) j
+    now j = ap (λ (z : Sheet). standard_need z j) (sym (done ∙ cond-true (can_record within (sheet_of before) m i s q) (recorded (sheet_of before) m i s q) (sheet_of before) (sym can)))
 
     member : m < 32
     member = ltb-true m 32 (and_parts (ltb m 32) _ (sym can)).0
 
-    answer : ◌≡◌ {A = Result ℕ KeeperRefusal} (Ok need) (Ok (need_of (summed standard_amount) (recorded (sheet_of before) m i s q) m))
+    answer : ◌≡◌ {A = Result ℕ KeeperRefusal} (Ok need) (Ok (standard_need (recorded (sheet_of before) m i s q) m))
     answer = asked ∙ cond-true _ _ _ (sym can)
 
-    own : m ≡ k → get_or (set needs m need) k 0 ≡ need_of (summed standard_amount) (sheet_of after) k
+    own : m ≡ k → get_or (set needs m need) k 0 ≡ standard_need (sheet_of after) k
     own e =
-        let value : need ≡ need_of (summed standard_amount) (recorded (sheet_of before) m i s q) m = cc in
-        subst (λ j. get_or (set needs m need) j 0 ≡ need_of (summed standard_amount) (sheet_of after) j) e (get_or-set_same needs m need 0 (omega (arith, member)) ∙ value ∙ now m)
+        let value : need ≡ standard_need (recorded (sheet_of before) m i s q) m = cc in
+        subst (λ j. get_or (set needs m need) j 0 ≡ standard_need (sheet_of after) j) e (get_or-set_same needs m need 0 (omega (arith, member)) ∙ value ∙ now m)
 
-    other : (m ≡ k → ⊥) → get_or (set needs m need) k 0 ≡ need_of (summed standard_amount) (sheet_of after) k
+    other : (m ≡ k → ⊥) → get_or (set needs m need) k 0 ≡ standard_need (sheet_of after) k
     other ne =
         let same : (sheet_of before).held k ≡ (recorded (sheet_of before) m i s q).held k = sym (put_there (sheet_of before).held m (raised ((sheet_of before).held m) s i q) k ne) in
         get_or-set_other needs m k need 0 (λ e. ne (sym e)) ∙ kept k ∙ ap (λ t. cond (ltb k 32) (summed standard_amount (sheet_of before).factor t) 0) same ∙ now k

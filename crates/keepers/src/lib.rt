@@ -5,3 +5,4 @@
 pub mod gross;
 pub mod reckoner;
 pub mod running;
+pub mod summing;

@@ -14,6 +14,9 @@ use positions::tariff::Standard;
 use terms::Side;
 
 /// The running keeper: the standard charge, each member's kept beside the lots and brought up to date at each record.
+///
+/// It has a table and no `SummingKeeper`: `need_with` asks for amounts, which no keeper answers, and what passes calls on is
+/// a line a call either way.
 #[derive(Drop)]
 pub struct RunningKeeper {
     table: LotsTable<100_000>,
@@ -83,10 +86,6 @@ impl Keeper for RunningKeeper {
 
     ghost rise_bounded = { summed_rise standard_amount standard_none standard_rise 100000 };
 
-    fn highest_total() -> u32 {
-        Self::REACH
-    }
-
     fn set_factor(&mut self, instrument: u8, factor: u32) -> Result<(), KeeperRefusal> {
         self.set_unused_factor(instrument, factor)
     }
@@ -107,11 +106,7 @@ impl Keeper for RunningKeeper {
     }
 
     fn need(&self, member: u8) -> u64 {
-        let m = member as usize;
-        if m >= MEMBERS {
-            return 0;
-        }
-        self.needs[m]
+        self.needs.get(member as usize).copied().unwrap_or(0)
     }
 
     fn need_with(

@@ -9,11 +9,7 @@ pub fn deposit_use<K: Keeper>(keeper: &K, member: u8, deposit: u64) -> Option<u6
     ensures value { result ≡ use_of_deposit (need_of K.Keeper.charge (K.Keeper.sheet keeper.now) member) deposit }
     ensures needs_fit { NeedsFit K.Keeper.charge (K.Keeper.sheet keeper.now) }
 {
-    let need = bounded_need(keeper, member);
-    if deposit == 0 {
-        return None;
-    }
-    Some(100 * need / deposit)
+    (100 * bounded_need(keeper, member)).checked_div(deposit)
 }
 
 // The need, with what the two laws say of its size.

@@ -9,6 +9,8 @@ use terms::Side;
 /// and answers the need, which is the margin charged on them, in half-rupees.
 ///
 /// A factor is 1 to 100,000 rupees a lot. Members are 0 to 31, instruments 0 to 15.
+///
+/// Calls take member, instrument, side and lots one by one, as whoever makes them has them.
 pub trait Keeper {
     /// The keeper's reach: the most lots that one total may come to, 1 to 100,000.
     const REACH: u32;
@@ -24,7 +26,10 @@ pub trait Keeper {
 
     /// `REACH`, for generic code that has to know it.
     fn highest_total() -> u32
-        ensures { result ≡ REACH };
+        ensures { result ≡ REACH }
+    {
+        Self::REACH
+    }
 
     /// Gives an instrument its factor, once.
     fn set_factor(&mut self, instrument: u8, factor: u32) -> Result<(), KeeperRefusal>

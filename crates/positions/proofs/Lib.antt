@@ -1,4 +1,5 @@
 pub mod Sums
+pub mod Members
 pub mod Sheets
 pub mod Positions
 pub mod Moves

@@ -19,19 +19,19 @@ only_refusal (Ok n) e = cc
 only_refusal (Err x) e = refl
 
 module _ (amount : Amount) {reach : ℕ} (xs : List (InstrumentLots reach)) (i : ℕ) (x : InstrumentLots reach) (l : i < 16) (h : i < length xs) (m : ℕ) where
-  pub amount_now : (p : Position) → IsPosition (get_or xs i x).factor (lots_in (get_or xs i x)) m p → amount p.factor p.bought p.sold ≡ amount_at amount (sheet_of (table_of xs)).factor ((sheet_of (table_of xs)).held m) i
+  pub amount_now : (p : Position) → IsPosition (get_or xs i x).factor (lots_in (get_or xs i x)) m p → amount p.factor p.lots.bought p.lots.sold ≡ amount_at amount (sheet_of (table_of xs)).factor ((sheet_of (table_of xs)).held m) i
   amount_now p is =
       let factor = factor_at xs i x l h in
-      let bought = held_at xs i x l h m Bid in
-      let sold = held_at xs i x l h m Offer in
+      let bought : p.lots.bought ≡ (sheet_of (table_of xs)).held m Bid i = is.totals Bid ∙ sym (held_at xs i x l h m Bid) in
+      let sold : p.lots.sold ≡ (sheet_of (table_of xs)).held m Offer i = is.totals Offer ∙ sym (held_at xs i x l h m Offer) in
       cc
 
-  pub amount_with : (s : Side) (q : ℕ) (p : Position) → IsPosition (get_or xs i x).factor (raised (lots_in (get_or xs i x)) s m q) m p → amount p.factor p.bought p.sold ≡ amount_at amount (sheet_of (table_of xs)).factor (raised ((sheet_of (table_of xs)).held m) s i q) i
+  pub amount_with : (s : Side) (q : ℕ) (p : Position) → IsPosition (get_or xs i x).factor (raised (lots_in (get_or xs i x)) s m q) m p → amount p.factor p.lots.bought p.lots.sold ≡ amount_at amount (sheet_of (table_of xs)).factor (raised ((sheet_of (table_of xs)).held m) s i q) i
   amount_with s q p is =
       let factor = factor_at xs i x l h in
       let same = raised_alike (lots_in (get_or xs i x)) ((sheet_of (table_of xs)).held m) s m i q (λ u. sym (held_at xs i x l h m u)) in
-      let bought = same Bid in
-      let sold = same Offer in
+      let bought : p.lots.bought ≡ raised ((sheet_of (table_of xs)).held m) s i q Bid i = is.totals Bid ∙ same Bid in
+      let sold : p.lots.sold ≡ raised ((sheet_of (table_of xs)).held m) s i q Offer i = is.totals Offer ∙ same Offer in
       cc
 
   pub amounts_done : (within : ℕ) (s : Side) (q : ℕ) (change : AmountChange) → can_record within (sheet_of (table_of xs)) m i s q ≡ true

@@ -1,10 +1,8 @@
 -- The sheet that a table of lots means, as one instrument of the table is written.
-use Rattle.std.proofs.Common.{◌≡◌, ℕ, zero, suc, ◌+◌, ◌<◌, ◌≤◌, Bool, true, false, cond, not, ◌&&◌, eqb, leb, List, length, get_or, set, replicate, sym, refl, ap, ◌∙◌, subst, ap₂, ⊎_elim, arith}
+use Rattle.std.proofs.Common.{◌≡◌, ℕ, ◌+◌, ◌<◌, ◌≤◌, Bool, true, false, cond, not, ◌&&◌, eqb, leb, List, length, get_or, set, replicate, sym, refl, ap, ◌∙◌, subst, ap₂, ⊎_elim, arith}
 use mathlib.Core.Path.{fun_ext}
-use Rattle.std.proofs.lemmas.List.{get_or_past}
-use Rattle.std.proofs.lemmas.Bool.{lt-ltb, cond-true, cond-false, cases_Bool}
+use Rattle.std.proofs.lemmas.Bool.{lt-ltb, leb-true, eqb-false, not-true, and_parts, cond-true, cond-false, cases_Bool}
 use Rattle.terms.specs.declared.Side.{Side}
-use Rattle.terms.specs.declared.Side.TheVariants.{Bid, Offer}
 use Rattle.terms.specs.Tables.{put}
 use Rattle.terms.proofs.Tables.{put_cases, put_same, column_at, column_past, column_set, column_all, column_follows, column_replicate}
 use Rattle.margin.specs.Sheets.{Sheet, Totals, no_lots, raised, fresh_sheet, can_set_factor, with_factor, after_set_factor, can_record, recorded, after_record}
@@ -12,6 +10,7 @@ use Rattle.margin.proofs.Raises.{raised_alike, raised_there}
 use Rattle.margin.specs.Laws.{Lawful}
 use Rattle.positions.specs.declared.lots.InstrumentLots.{InstrumentLots}
 use Rattle.positions.specs.declared.lots.LotsTable.{LotsTable}
+use Rattle.positions.specs.Totals.{total_on}
 use Rattle.positions.specs.Reads.{lots_in, sheet_of, can_take_factor, can_grow}
 
 abbrev pub table_of : {reach : ℕ} → List (InstrumentLots reach) → LotsTable reach
@@ -98,20 +97,14 @@ module _ {reach : ℕ} (xs : List (InstrumentLots reach)) (i : ℕ) (x : Instrum
       refused : can_grow within (get_or xs i x) m s q ≡ false → sheet_of (table_of (set xs i y)) ≡ after_record within (sheet_of (table_of xs)) m i s q
       refused cannot = sheet_same y e (d ∙ cond-false _ _ _ cannot) ∙ sym (cond-false _ _ _ (can_record_at within m s q lm ∙ cannot))
 
-lots_past : {reach : ℕ} (x : InstrumentLots reach) (s : Side) (m : ℕ) → 32 ≤ m → lots_in x s m ≡ 0
-lots_past x Bid m l = get_or_past x.bought m 0 (omega (arith, x.members_who_bought))
-lots_past x Offer m l = get_or_past x.sold m 0 (omega (arith, x.members_who_sold))
-
-lots_in_reach : {reach : ℕ} (x : InstrumentLots reach) (s : Side) (m : ℕ) → lots_in x s m ≤ reach
-lots_in_reach x Bid m = x.bought_in_reach m
-lots_in_reach x Offer m = x.sold_in_reach m
-
-lots_with_factor : {reach : ℕ} (x : InstrumentLots reach) (s : Side) (m : ℕ) → x.factor ≡ 0 → lots_in x s m ≡ 0
-lots_with_factor x Bid m e = x.bought_with_factor m e
-lots_with_factor x Offer m e = x.sold_with_factor m e
+-- Lots that may be recorded meet a factor, and stay within the reach.
+pub grows : {reach : ℕ} (within : ℕ) (x : InstrumentLots reach) (m : ℕ) (s : Side) (q : ℕ) → true ≡ can_grow within x m s q → (x.factor ≡ 0 → ⊥) × (lots_in x s m + q ≤ within)
+grows within x m s q can =
+    let parts = and_parts (not (eqb x.factor 0)) (leb 1 q && leb (lots_in x s m + q) within) (sym can) in
+    (eqb-false x.factor 0 (not-true (eqb x.factor 0) parts.0), leb-true (lots_in x s m + q) within (and_parts (leb 1 q) (leb (lots_in x s m + q) within) parts.1).1)
 
 pub held_past : {reach : ℕ} (table : LotsTable reach) (m : ℕ) → 32 ≤ m → (s : Side) (i : ℕ) → (sheet_of table).held m s i ≡ 0
-held_past table m l s = column_all (λ z. z ≡ 0) refl 16 table.instruments (λ x. lots_in x s m) (λ x. lots_past x s m l)
+held_past table m l s = column_all (λ z. z ≡ 0) refl 16 table.instruments (λ x. lots_in x s m) (λ x. column_past 32 x.members (λ lots. total_on lots s) m l)
 
 -- Every table means a sheet as a keeper may hold it.
 pub sheet_lawful : {reach : ℕ} (table : LotsTable reach) → Lawful reach (sheet_of table)
@@ -119,8 +112,8 @@ sheet_lawful {reach} table =
     record {
       factor_in_range = column_all (λ z. z ≤ 100000) (omega arith) 16 table.instruments (λ x. x.factor) (λ x. x.factor_in_range);
       no_factor_past = column_past 16 table.instruments (λ x. x.factor);
-      total_in_reach = λ m s. column_all (λ z. z ≤ reach) (omega arith) 16 table.instruments (λ x. lots_in x s m) (λ x. lots_in_reach x s m);
-      no_factor_no_lots = λ m s i. column_follows table.instruments (λ x. x.factor) (λ x. lots_in x s m) 16 (λ x. lots_with_factor x s m) i;
+      total_in_reach = λ m s. column_all (λ z. z ≤ reach) (omega arith) 16 table.instruments (λ x. lots_in x s m) (λ x. x.in_reach s m);
+      no_factor_no_lots = λ m s i. column_follows table.instruments (λ x. x.factor) (λ x. lots_in x s m) 16 (λ x. x.only_with_factor s m) i;
       no_lots_past = held_past table;
     }
 
@@ -128,15 +121,3 @@ pub fresh_table : {reach : ℕ} (x : InstrumentLots reach) → x.factor ≡ 0 �
 fresh_table x no_factor empty =
     sheet_eq _ _ _ _ (column_replicate 16 16 x (λ y. y.factor) no_factor)
     (fun_ext (λ m. fun_ext (λ s. column_replicate 16 16 x (λ y. lots_in y s m) (ap (λ (z : Side → ℕ → ℕ). z s m) empty))))
-
-pub no_lots_from : (lots : Side → ℕ → ℕ) → ((m : ℕ) → lots Bid m ≡ 0) → ((m : ℕ) → lots Offer m ≡ 0) → lots ≡ no_lots
-no_lots_from lots bought sold = fun_ext side
-  where
-    side : (s : Side) → lots s ≡ no_lots s
-    side Bid = fun_ext bought
-    side Offer = fun_ext sold
-
-pub zero_at : (n m : ℕ) → ◌≡◌ {A = ℕ} (get_or (replicate n 0) m 0) 0
-zero_at zero m = refl
-zero_at (suc n) zero = refl
-zero_at (suc n) (suc m) = zero_at n m

@@ -1,7 +1,7 @@
 -- A rise in lots, times the factor.
 use Rattle.std.specs.Prelude.{◌≡◌, ℕ, ◌+◌, ◌-◌, ◌*◌, ◌≤◌, min, max}
 use Rattle.std.proofs.Common.{arith, mul-le-mul, mul-add, mul-zero, le_refl}
-use Rattle.positions.specs.Charges.{standard_amount, gross_amount, AmountRiseBounded}
+use Rattle.positions.specs.Charges.{standard_amount, AmountRiseBounded}
 
 -- What grows by at most 2 × q grows, times a factor, by at most 2 × factor × q.
 pub scaled_rise : (factor before after q : ℕ) → after ≤ before + 2 * q → factor * after ≤ factor * before + 2 * (factor * q)
@@ -16,13 +16,4 @@ pub standard_rise : AmountRiseBounded standard_amount
 standard_rise factor bought sold q = (
   scaled_rise factor (2 * max bought sold - min bought sold) (2 * max (bought + q) sold - min (bought + q) sold) q (omega arith),
   scaled_rise factor (2 * max bought sold - min bought sold) (2 * max bought (sold + q) - min bought (sold + q)) q (omega arith),
-)
-
-pub gross_none : (factor : ℕ) → gross_amount factor 0 0 ≡ 0
-gross_none factor = omega (arith, mul-zero factor)
-
-pub gross_rise : AmountRiseBounded gross_amount
-gross_rise factor bought sold q = (
-  omega (arith, mul-add factor bought sold, mul-add factor (bought + q) sold, mul-add factor bought q),
-  omega (arith, mul-add factor bought sold, mul-add factor bought (sold + q), mul-add factor sold q),
 )

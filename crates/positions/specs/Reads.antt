@@ -1,17 +1,16 @@
 -- The sheet that a table of lots means.
-use Rattle.std.specs.Prelude.{◌≡◌, ℕ, ◌+◌, Bool, not, ◌&&◌, ◌==◌, nat_le, slice_index}
+use Rattle.std.specs.Prelude.{◌≡◌, ℕ, ◌+◌, Bool, not, ◌&&◌, ◌==◌, nat_le}
 use Rattle.terms.specs.declared.Side.{Side}
-use Rattle.terms.specs.declared.Side.TheVariants.{Bid, Offer}
 use Rattle.terms.specs.Tables.{column}
 use Rattle.margin.specs.Sheets.{Sheet}
 use Rattle.positions.specs.declared.lots.InstrumentLots.{InstrumentLots}
 use Rattle.positions.specs.declared.lots.LotsTable.{LotsTable}
 use Rattle.positions.specs.declared.lots.Position.{Position}
+use Rattle.positions.specs.Totals.{total_on, totals_of}
 
 -- The lots in one instrument, by side and member.
 abbrev pub lots_in : {reach : ℕ} → InstrumentLots reach → Side → ℕ → ℕ
-lots_in instrument Bid member = slice_index instrument.bought member
-lots_in instrument Offer member = slice_index instrument.sold member
+lots_in instrument = totals_of instrument.members
 
 abbrev pub sheet_of : {reach : ℕ} → LotsTable reach → Sheet
 sheet_of table =
@@ -23,8 +22,7 @@ sheet_of table =
 -- The position of one member in an instrument of this factor and these lots, by side and member.
 pub record IsPosition (of_factor : ℕ) (lots : Side → ℕ → ℕ) (member : ℕ) (position : Position) : Type 0 where
   pub factor : position.factor ≡ of_factor
-  pub bought : position.bought ≡ lots Bid member
-  pub sold : position.sold ≡ lots Offer member
+  pub totals : (side : Side) → total_on position.lots side ≡ lots side member
 
 -- Set factor within one instrument.
 abbrev pub can_take_factor : {reach : ℕ} → InstrumentLots reach → ℕ → Bool

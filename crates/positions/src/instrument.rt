@@ -1,8 +1,10 @@
-ghost use Rattle.std.specs.Prelude.{◌≡◌, ◌<◌, is_ok, IfOk, if◌then◌else◌};
+ghost use Rattle.std.specs.Prelude.{◌≡◌, is_ok, IfOk, if◌then◌else◌};
 ghost use Rattle.margin.specs.Sheets.{no_lots, raised};
 ghost use Rattle.positions.specs.Reads.{lots_in, can_take_factor, can_grow, IsPosition};
 
 use crate::lots::{HIGHEST_FACTOR, InstrumentLots, MEMBERS, Position};
+use crate::places::MemberPlace;
+use crate::totals::MemberLots;
 use margin::refusal::KeeperRefusal;
 use terms::Side;
 
@@ -13,8 +15,7 @@ impl<const REACH: u32> InstrumentLots<REACH> {
     {
         InstrumentLots {
             factor: 0,
-            bought: [0; MEMBERS],
-            sold: [0; MEMBERS],
+            members: [MemberLots::default(); MEMBERS],
         }
     }
 
@@ -23,84 +24,64 @@ impl<const REACH: u32> InstrumentLots<REACH> {
         ensures factor { self.new.factor ≡ (if can_take_factor self.old factor then factor else self.old.factor) }
         ensures lots { lots_in self.new ≡ lots_in self.old }
     {
-        if self.factor != 0 {
-            return Err(KeeperRefusal);
-        }
-        if factor == 0 {
-            return Err(KeeperRefusal);
-        }
-        if factor > HIGHEST_FACTOR {
+        if self.factor != 0 || !(1..=HIGHEST_FACTOR).contains(&factor) {
             return Err(KeeperRefusal);
         }
         self.factor = factor;
         Ok(())
     }
 
-    pub(crate) fn position(&self, member: usize) -> Position
-        requires { member < 32 }
-        ensures { IsPosition self.now.factor (lots_in self.now) member result }
+    pub(crate) fn position(&self, member: MemberPlace) -> Position
+        ensures { IsPosition self.now.factor (lots_in self.now) member.number result }
     {
         Position {
             factor: self.factor,
-            bought: self.bought[member],
-            sold: self.sold[member],
+            lots: self.members[member.number],
         }
     }
 
-    pub(crate) fn total(&self, member: usize, side: Side) -> u32
-        requires { member < 32 }
+    /// One of a member's totals; 0 for a member out of range.
+    pub(crate) fn total(&self, member: u8, side: Side) -> u32
         ensures { result ≡ lots_in self.now side member }
     {
-        match side {
-            Side::Bid => self.bought[member],
-            Side::Offer => self.sold[member],
+        match MemberPlace::try_from(member) {
+            Ok(m) => self.members[m.number].on(side),
+            Err(_) => 0,
         }
     }
 
     // The member's position with some lots more, or record's refusal.
     pub(crate) fn position_with(
         &self,
-        member: usize,
+        member: MemberPlace,
         side: Side,
         lots: u32,
     ) -> Result<Position, KeeperRefusal>
-        requires { member < 32 }
-        ensures answer { is_ok result ≡ can_grow REACH self.now member side lots }
-        ensures value { IfOk result (IsPosition self.now.factor (raised (lots_in self.now) side member lots) member) }
+        ensures answer { is_ok result ≡ can_grow REACH self.now member.number side lots }
+        ensures value { IfOk result (IsPosition self.now.factor (raised (lots_in self.now) side member.number lots) member.number) }
     {
-        if self.factor == 0 {
+        let held = self.position(member).lots;
+        if self.factor == 0 || lots == 0 || lots > REACH - held.on(side) {
             return Err(KeeperRefusal);
         }
-        if lots == 0 {
-            return Err(KeeperRefusal);
-        }
-        if lots > REACH - self.total(member, side) {
-            return Err(KeeperRefusal);
-        }
-        let mut position = self.position(member);
-        match side {
-            Side::Bid => position.bought += lots,
-            Side::Offer => position.sold += lots,
-        }
-        Ok(position)
+        Ok(Position {
+            factor: self.factor,
+            lots: held.with_more(side, lots),
+        })
     }
 
     pub(crate) fn record(
         &mut self,
-        member: usize,
+        member: MemberPlace,
         side: Side,
         lots: u32,
     ) -> Result<(), KeeperRefusal>
-        requires { member < 32 }
-        ensures answer { is_ok result ≡ can_grow REACH self.old member side lots }
+        ensures answer { is_ok result ≡ can_grow REACH self.old member.number side lots }
         ensures factor { self.new.factor ≡ self.old.factor }
-        ensures lots { lots_in self.new ≡ (if can_grow REACH self.old member side lots then raised (lots_in self.old) side member lots else lots_in self.old) }
+        ensures lots { lots_in self.new ≡ (if can_grow REACH self.old member.number side lots then raised (lots_in self.old) side member.number lots else lots_in self.old) }
     {
         let position = self.position_with(member, side, lots)?;
-        match side {
-            Side::Bid => self.bought[member] = position.bought,
-            Side::Offer => self.sold[member] = position.sold,
-        }
+        self.members[member.number] = position.lots;
         Ok(())
     }
 }

@@ -4,5 +4,7 @@
 
 mod instrument;
 pub mod lots;
+mod places;
 pub mod table;
 pub mod tariff;
+mod totals;

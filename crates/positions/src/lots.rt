@@ -1,4 +1,8 @@
-ghost use Rattle.std.specs.Prelude.{◌≡◌, ℕ, ◌≤◌, length, slice_index};
+ghost use Rattle.std.specs.Prelude.{◌≡◌, ℕ, ◌≤◌};
+ghost use Rattle.terms.specs.declared.Side.{Side};
+ghost use Rattle.positions.specs.Totals.{totals_of};
+
+use crate::totals::MemberLots;
 
 /// Members are 0 to 31.
 pub const MEMBERS: usize = 32;
@@ -13,8 +17,7 @@ pub(crate) const HIGHEST_FACTOR: u32 = 100_000;
 #[derive(Clone, Copy)]
 pub struct Position {
     pub(crate) factor: u32,
-    pub(crate) bought: u32,
-    pub(crate) sold: u32,
+    pub(crate) lots: MemberLots,
     ghost factor_in_range: { factor ≤ 100000 },
 }
 
@@ -25,20 +28,16 @@ pub struct AmountChange {
     pub after: u64,
 }
 
-/// One instrument: its factor, 0 for none, and the lots that each member bought and sold.
-/// There are none where there is no factor.
+/// One instrument: its factor, and each member's lots. There are none where there is no factor.
+///
+/// A factor of 0 and not an `Option`: on no lots every tariff charges 0, so that it needs no case of its own.
 #[derive(Clone, Copy)]
 pub struct InstrumentLots<const REACH: u32> {
     pub(crate) factor: u32,
-    pub(crate) bought: [u32; MEMBERS],
-    pub(crate) sold: [u32; MEMBERS],
-    ghost members_who_bought: { length bought ≡ 32 },
-    ghost members_who_sold: { length sold ≡ 32 },
+    pub(crate) members: [MemberLots; MEMBERS],
     ghost factor_in_range: { factor ≤ 100000 },
-    ghost bought_in_reach: { (m : ℕ) → slice_index bought m ≤ REACH },
-    ghost sold_in_reach: { (m : ℕ) → slice_index sold m ≤ REACH },
-    ghost bought_with_factor: { (m : ℕ) → factor ≡ 0 → slice_index bought m ≡ 0 },
-    ghost sold_with_factor: { (m : ℕ) → factor ≡ 0 → slice_index sold m ≡ 0 },
+    ghost in_reach: { (side : Side) (m : ℕ) → totals_of members side m ≤ REACH },
+    ghost only_with_factor: { (side : Side) (m : ℕ) → factor ≡ 0 → totals_of members side m ≡ 0 },
 }
 
 /// Factors and lots, as the shipped keepers hold them. `REACH` is the most lots that one total may come to.

@@ -1,14 +1,15 @@
-ghost use Rattle.std.specs.Prelude.{◌≡◌, ◌<◌, is_ok, IfOk};
+ghost use Rattle.std.specs.Prelude.{◌≡◌, is_ok, IfOk};
 ghost use Rattle.margin.specs.Sheets.{no_lots, fresh_sheet, can_set_factor, after_set_factor, can_record, recorded, after_record, need_of, need_with};
 ghost use Rattle.positions.specs.Charges.{summed, amounts_with, Moves};
 ghost use Rattle.positions.specs.Reads.{lots_in, sheet_of};
 
-use crate::lots::{AmountChange, INSTRUMENTS, InstrumentLots, LotsTable, MEMBERS};
+use crate::lots::{AmountChange, INSTRUMENTS, InstrumentLots, LotsTable};
+use crate::places::{InstrumentPlace, MemberPlace};
 use crate::tariff::Tariff;
 use margin::refusal::KeeperRefusal;
 use terms::Side;
 
-// The calls. Each tests its own arguments, and leaves the work to a function below that is given places within the table.
+// The calls. Each finds the places that its numbers name, and leaves the work to a function below that is given them.
 impl<const REACH: u32> LotsTable<REACH> {
     /// No factor and no lots.
     pub fn fresh() -> Self
@@ -22,10 +23,7 @@ impl<const REACH: u32> LotsTable<REACH> {
         ensures answer { is_ok result ≡ can_set_factor (sheet_of self.old) instrument factor }
         ensures after { sheet_of self.new ≡ after_set_factor (sheet_of self.old) instrument factor }
     {
-        let i = instrument as usize;
-        if i >= INSTRUMENTS {
-            return Err(KeeperRefusal);
-        }
+        let i = InstrumentPlace::try_from(instrument)?;
         self.set_factor_at(i, factor)
     }
 
@@ -40,14 +38,8 @@ impl<const REACH: u32> LotsTable<REACH> {
         ensures answer { is_ok result ≡ can_record REACH (sheet_of self.old) member instrument side lots }
         ensures after { sheet_of self.new ≡ after_record REACH (sheet_of self.old) member instrument side lots }
     {
-        let m = member as usize;
-        let i = instrument as usize;
-        if m >= MEMBERS {
-            return Err(KeeperRefusal);
-        }
-        if i >= INSTRUMENTS {
-            return Err(KeeperRefusal);
-        }
+        let m = MemberPlace::try_from(member)?;
+        let i = InstrumentPlace::try_from(instrument)?;
         self.record_at(m, i, side, lots)
     }
 
@@ -55,22 +47,20 @@ impl<const REACH: u32> LotsTable<REACH> {
     pub fn held(&self, member: u8, instrument: u8, side: Side) -> u32
         ensures { result ≡ (sheet_of self.now).held member side instrument }
     {
-        let i = instrument as usize;
-        if i >= INSTRUMENTS {
-            return 0;
+        match InstrumentPlace::try_from(instrument) {
+            Ok(i) => self.held_at(member, i, side),
+            Err(_) => 0,
         }
-        self.held_at(member as usize, i, side)
     }
 
     /// A member's need under a tariff: the sum of what the instruments add; 0 for a member out of range.
     pub fn need<T: Tariff>(&self, tariff: &T, member: u8) -> u64
         ensures { result ≡ need_of (summed T.Tariff.charged) (sheet_of self.now) member }
     {
-        let m = member as usize;
-        if m >= MEMBERS {
-            return 0;
+        match MemberPlace::try_from(member) {
+            Ok(m) => self.charge_at(tariff, m),
+            Err(_) => 0,
         }
-        self.charge_at(tariff, m)
     }
 
     /// What one instrument adds to a member's need, now and with some lots more; refused where `record` is.
@@ -86,14 +76,8 @@ impl<const REACH: u32> LotsTable<REACH> {
         ensures value { result ≡ amounts_with T.Tariff.charged REACH (sheet_of self.now) member instrument side lots }
         ensures moves { IfOk result (λ change. Moves (need_of (summed T.Tariff.charged) (sheet_of self.now) member) change (need_of (summed T.Tariff.charged) (recorded (sheet_of self.now) member instrument side lots) member)) }
     {
-        let m = member as usize;
-        let i = instrument as usize;
-        if m >= MEMBERS {
-            return Err(KeeperRefusal);
-        }
-        if i >= INSTRUMENTS {
-            return Err(KeeperRefusal);
-        }
+        let m = MemberPlace::try_from(member)?;
+        let i = InstrumentPlace::try_from(instrument)?;
         self.amounts_at(tariff, m, i, side, lots)
     }
 
@@ -126,36 +110,37 @@ impl<const REACH: u32> LotsTable<REACH> {
         }
     }
 
-    fn set_factor_at(&mut self, i: usize, factor: u32) -> Result<(), KeeperRefusal>
-        requires { i < 16 }
-        ensures answer { is_ok result ≡ can_set_factor (sheet_of self.old) i factor }
-        ensures after { sheet_of self.new ≡ after_set_factor (sheet_of self.old) i factor }
+    fn set_factor_at(&mut self, i: InstrumentPlace, factor: u32) -> Result<(), KeeperRefusal>
+        ensures answer { is_ok result ≡ can_set_factor (sheet_of self.old) i.number factor }
+        ensures after { sheet_of self.new ≡ after_set_factor (sheet_of self.old) i.number factor }
     {
-        self.instruments[i].set_factor(factor)
+        self.instruments[i.number].set_factor(factor)
     }
 
-    fn record_at(&mut self, m: usize, i: usize, side: Side, lots: u32) -> Result<(), KeeperRefusal>
-        requires { (m < 32) × (i < 16) }
-        ensures answer { is_ok result ≡ can_record REACH (sheet_of self.old) m i side lots }
-        ensures after { sheet_of self.new ≡ after_record REACH (sheet_of self.old) m i side lots }
+    fn record_at(
+        &mut self,
+        m: MemberPlace,
+        i: InstrumentPlace,
+        side: Side,
+        lots: u32,
+    ) -> Result<(), KeeperRefusal>
+        ensures answer { is_ok result ≡ can_record REACH (sheet_of self.old) m.number i.number side lots }
+        ensures after { sheet_of self.new ≡ after_record REACH (sheet_of self.old) m.number i.number side lots }
     {
-        self.instruments[i].record(m, side, lots)
+        self.instruments[i.number].record(m, side, lots)
     }
 
-    fn held_at(&self, m: usize, i: usize, side: Side) -> u32
-        requires { i < 16 }
-        ensures { result ≡ (sheet_of self.now).held m side i }
+    fn held_at(&self, member: u8, i: InstrumentPlace, side: Side) -> u32
+        ensures { result ≡ (sheet_of self.now).held member side i.number }
     {
-        if m >= MEMBERS {
-            return 0;
-        }
-        self.instruments[i].total(m, side)
+        self.instruments[i.number].total(member, side)
     }
 
-    fn charge_at<T: Tariff>(&self, tariff: &T, m: usize) -> u64
-        requires { m < 32 }
-        ensures { result ≡ summed T.Tariff.charged (sheet_of self.now).factor ((sheet_of self.now).held m) }
+    fn charge_at<T: Tariff>(&self, tariff: &T, m: MemberPlace) -> u64
+        ensures { result ≡ summed T.Tariff.charged (sheet_of self.now).factor ((sheet_of self.now).held m.number) }
     {
+        // Not `iter().map(..).sum()`, as tried: in generic code its closure needs an `ensures` that is longer than this loop,
+        // and with it the check finds neither that the sum fits nor what it is.
         let mut sum = 0;
         for instrument in &self.instruments {
             sum += tariff.amount(instrument.position(m));
@@ -166,18 +151,17 @@ impl<const REACH: u32> LotsTable<REACH> {
     fn amounts_at<T: Tariff>(
         &self,
         tariff: &T,
-        m: usize,
-        i: usize,
+        m: MemberPlace,
+        i: InstrumentPlace,
         side: Side,
         lots: u32,
     ) -> Result<AmountChange, KeeperRefusal>
-        requires { (m < 32) × (i < 16) }
-        ensures answer { is_ok result ≡ can_record REACH (sheet_of self.now) m i side lots }
-        ensures value { result ≡ amounts_with T.Tariff.charged REACH (sheet_of self.now) m i side lots }
-        ensures moves { IfOk result (λ change. Moves (need_of (summed T.Tariff.charged) (sheet_of self.now) m) change (need_of (summed T.Tariff.charged) (recorded (sheet_of self.now) m i side lots) m)) }
+        ensures answer { is_ok result ≡ can_record REACH (sheet_of self.now) m.number i.number side lots }
+        ensures value { result ≡ amounts_with T.Tariff.charged REACH (sheet_of self.now) m.number i.number side lots }
+        ensures moves { IfOk result (λ change. Moves (need_of (summed T.Tariff.charged) (sheet_of self.now) m.number) change (need_of (summed T.Tariff.charged) (recorded (sheet_of self.now) m.number i.number side lots) m.number)) }
     {
-        let grown = self.instruments[i].position_with(m, side, lots)?;
-        let before = tariff.amount(self.instruments[i].position(m));
+        let grown = self.instruments[i.number].position_with(m, side, lots)?;
+        let before = tariff.amount(self.instruments[i.number].position(m));
         let after = tariff.amount(grown);
         Ok(AmountChange { before, after })
     }

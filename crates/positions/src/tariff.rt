@@ -4,13 +4,14 @@ ghost use Rattle.positions.specs.Amounts.{standard_rise};
 ghost use Rattle.std.proofs.Common.{rules};
 
 use crate::lots::Position;
+use crate::totals::MemberLots;
 
 /// What one instrument adds to a member's charge, in half-rupees.
 pub trait Tariff {
     ghost charged: { Amount };
 
     fn amount(&self, position: Position) -> u64
-        ensures { result ≡ charged position.factor position.bought position.sold };
+        ensures { result ≡ charged position.factor position.lots.bought position.lots.sold };
 
     ghost no_lots_no_amount: { (factor : ℕ) → charged factor 0 0 ≡ 0 };
 
@@ -18,11 +19,11 @@ pub trait Tariff {
 }
 
 /// The standard charge: factor × (2 × the larger total − the smaller).
-#[derive(Clone, Copy)]
+#[derive(Clone, Copy, Default)]
 pub struct Standard;
 
 /// The gross charge, with no offset of lots bought against lots sold: 2 × factor × (bought + sold).
-#[derive(Clone, Copy)]
+#[derive(Clone, Copy, Default)]
 pub struct Gross;
 
 impl Tariff for Standard {
@@ -33,8 +34,8 @@ impl Tariff for Standard {
     ghost amount_rise_bounded = { standard_rise };
 
     fn amount(&self, position: Position) -> u64 {
-        let larger = position.bought.max(position.sold);
-        let smaller = position.bought.min(position.sold);
+        let MemberLots { bought, sold } = position.lots;
+        let (larger, smaller) = (bought.max(sold), bought.min(sold));
         u64::from(position.factor) * (2 * u64::from(larger) - u64::from(smaller))
     }
 }
@@ -47,6 +48,7 @@ impl Tariff for Gross {
     ghost amount_rise_bounded = { Prim.search rules };
 
     fn amount(&self, position: Position) -> u64 {
-        2 * (u64::from(position.factor) * (u64::from(position.bought) + u64::from(position.sold)))
+        let MemberLots { bought, sold } = position.lots;
+        2 * (u64::from(position.factor) * (u64::from(bought) + u64::from(sold)))
     }
 }

@@ -1,6 +1,5 @@
 use Rattle.std.proofs.Common.{sym, ◌∙◌}
-use Rattle.positions.proofs.Sheets.{zero_at}
-use Rattle.keepers.proofs.KeptNeeds.{fresh_need}
+use Rattle.keepers.proofs.KeptNeeds.{zero_at, fresh_need}
 use Rattle.keepers.proofs.running.RunningKeeper.over.Goals as goal
 
 pub invariant_of-result : goal.invariant_of-result

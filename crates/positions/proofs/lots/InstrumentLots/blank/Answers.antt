@@ -1,17 +1,15 @@
-use Rattle.std.proofs.Common.{refl, arith}
-use Rattle.positions.proofs.Sheets.{no_lots_from, zero_at}
+use Rattle.std.proofs.Common.{ap, arith}
+use Rattle.margin.specs.Sheets.{Totals}
+use Rattle.positions.proofs.Members.{blank_totals}
 use Rattle.positions.proofs.lots.InstrumentLots.blank.Goals as goal
 
 pub invariant_of-result : goal.invariant_of-result
-invariant_of-result g c = record {
-  members_who_bought = refl;
-  members_who_sold = refl;
-  factor_in_range = omega arith;
-  bought_in_reach = λ m. omega (arith, zero_at 32 m);
-  sold_in_reach = λ m. omega (arith, zero_at 32 m);
-  bought_with_factor = λ m _. zero_at 32 m;
-  sold_with_factor = λ m _. zero_at 32 m;
-}
+invariant_of-result g c =
+    let none = blank_totals c.default.result c.default.ensures.0 c.default.ensures.1 in record {
+      factor_in_range = omega arith;
+      in_reach = λ s m. omega (arith, ap (λ (t : Totals). t s m) none);
+      only_with_factor = λ s m _. ap (λ (t : Totals). t s m) none;
+    }
 
-pub returns : goal.returns
-returns g c = record { factor = refl; lots = no_lots_from _ (zero_at 32) (zero_at 32) }
+pub returns-clause-lots : goal.returns-clause-lots
+returns-clause-lots g c = blank_totals c.default.result c.default.ensures.0 c.default.ensures.1

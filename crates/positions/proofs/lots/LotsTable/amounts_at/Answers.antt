@@ -10,9 +10,9 @@ use Rattle.positions.proofs.lots.LotsTable.amounts_at.Goals as goal
 
 pub returns-in_err-grown : goal.returns-in_err-grown
 returns-in_err-grown g c =
-    let inside : c.args.i < length c.args.self.now.instruments = search rules in
-    let cannot : can_record g.row.REACH (sheet_of c.args.self.now) c.args.m c.args.i c.args.side c.args.lots ≡ false =
-    can_record_from c.args.self.now.instruments c.args.i c.index-self-i.result (omega arith) inside g.row.REACH c.args.m c.args.side c.args.lots false (omega arith) c.in_err-grown.ensures.answer in
+    let inside : c.args.i.number < length c.args.self.now.instruments = search rules in
+    let cannot : can_record g.row.REACH (sheet_of c.args.self.now) c.args.m.number c.args.i.number c.args.side c.args.lots ≡ false =
+    can_record_from c.args.self.now.instruments c.args.i.number c.index-self-i.result (omega arith) inside g.row.REACH c.args.m.number c.args.side c.args.lots false (omega arith) c.in_err-grown.ensures.answer in
     let refusal = only_refusal c.from_residual.result c.from_residual.ensures.0 in
     record {
       answer = ap is_ok refusal ∙ sym cannot;
@@ -22,19 +22,19 @@ returns-in_err-grown g c =
 
 pub returns : goal.returns
 returns g c =
-    let inside : c.args.i < length c.args.self.now.instruments = search rules in
-    let can : can_record g.row.REACH (sheet_of c.args.self.now) c.args.m c.args.i c.args.side c.args.lots ≡ true =
-    can_record_from c.args.self.now.instruments c.args.i c.index-self-i.result (omega arith) inside g.row.REACH c.args.m c.args.side c.args.lots true (omega arith) c.in_ok-grown.ensures.answer in
+    let inside : c.args.i.number < length c.args.self.now.instruments = search rules in
+    let can : can_record g.row.REACH (sheet_of c.args.self.now) c.args.m.number c.args.i.number c.args.side c.args.lots ≡ true =
+    can_record_from c.args.self.now.instruments c.args.i.number c.index-self-i.result (omega arith) inside g.row.REACH c.args.m.number c.args.side c.args.lots true (omega arith) c.in_ok-grown.ensures.answer in
     let before = c.amount-before.ensures
-    ∙ amount_now g.T.Tariff.charged c.args.self.now.instruments c.args.i c.index-self-i-2.result (omega arith) inside
-    c.args.m c.position.result c.position.ensures in
+    ∙ amount_now g.T.Tariff.charged c.args.self.now.instruments c.args.i.number c.index-self-i-2.result (omega arith) inside
+    c.args.m.number c.position.result c.position.ensures in
     let after = c.amount-after.ensures
-    ∙ amount_with g.T.Tariff.charged c.args.self.now.instruments c.args.i c.index-self-i.result (omega arith) inside
-    c.args.m c.args.side c.args.lots c.in_ok-grown.grown c.in_ok-grown.ensures.value in
+    ∙ amount_with g.T.Tariff.charged c.args.self.now.instruments c.args.i.number c.index-self-i.result (omega arith) inside
+    c.args.m.number c.args.side c.args.lots c.in_ok-grown.grown c.in_ok-grown.ensures.value in
     record {
       answer = sym can;
-      value = amounts_done g.T.Tariff.charged c.args.self.now.instruments c.args.i c.index-self-i.result (omega arith) inside
-          c.args.m g.row.REACH c.args.side c.args.lots _ can before after;
+      value = amounts_done g.T.Tariff.charged c.args.self.now.instruments c.args.i.number c.index-self-i.result (omega arith) inside
+          c.args.m.number g.row.REACH c.args.side c.args.lots _ can before after;
       moves = need_moves g.T.Tariff.charged g.met.T.Tariff.no_lots_no_amount g.met.T.Tariff.amount_rise_bounded g.row.REACH (omega (arith, g.REACH.fits))
-          (sheet_of c.args.self.now) (sheet_lawful c.args.self.now) c.args.m c.args.i c.args.side c.args.lots _ (omega arith) can before after;
+          (sheet_of c.args.self.now) (sheet_lawful c.args.self.now) c.args.m.number c.args.i.number c.args.side c.args.lots _ (omega arith) can before after;
     }

@@ -16,14 +16,14 @@ loop-instrument-init g c = (refl, omega arith)
 
 -- What the instrument of this turn adds, and that it is not too much.
 turn : (g : given.Over) (c : goal.After-amount-sum g)
-    → (c.amount-sum.result ≡ amount_at g.T.Tariff.charged (sheet_of c.args.self.now).factor ((sheet_of c.args.self.now).held c.args.m) c.loop-instrument.instrument-index)
+    → (c.amount-sum.result ≡ amount_at g.T.Tariff.charged (sheet_of c.args.self.now).factor ((sheet_of c.args.self.now).held c.args.m.number) c.loop-instrument.instrument-index)
     × (c.amount-sum.result ≤ most)
 turn g c =
     let amount = g.T.Tariff.charged in
     let i = c.loop-instrument.instrument-index in
     let inside : i < length c.args.self.now.instruments = search rules in
-    let here = c.amount-sum.ensures ∙ amount_now amount c.args.self.now.instruments i c.instrument-item.result (omega arith) inside c.args.m c.position.result c.position.ensures in
-    let few = amount_at_bounded amount g.met.T.Tariff.no_lots_no_amount g.met.T.Tariff.amount_rise_bounded g.row.REACH (omega (arith, g.REACH.fits)) (sheet_of c.args.self.now) (sheet_lawful c.args.self.now) c.args.m i in
+    let here = c.amount-sum.ensures ∙ amount_now amount c.args.self.now.instruments i c.instrument-item.result (omega arith) inside c.args.m.number c.position.result c.position.ensures in
+    let few = amount_at_bounded amount g.met.T.Tariff.no_lots_no_amount g.met.T.Tariff.amount_rise_bounded g.row.REACH (omega (arith, g.REACH.fits)) (sheet_of c.args.self.now) (sheet_lawful c.args.self.now) c.args.m.number i in
     (here, omega arith)
 
 pub overflow_add-sum : goal.overflow_add-sum
@@ -33,5 +33,5 @@ pub loop-instrument-preserved : goal.loop-instrument-preserved
 loop-instrument-preserved g c =
     let sheet = sheet_of c.args.self.now in
     let here = turn g c in
-    let more = sum_more c.loop-instrument.instrument-index (amount_at g.T.Tariff.charged sheet.factor (sheet.held c.args.m)) in
+    let more = sum_more c.loop-instrument.instrument-index (amount_at g.T.Tariff.charged sheet.factor (sheet.held c.args.m.number)) in
     (omega arith, omega arith)

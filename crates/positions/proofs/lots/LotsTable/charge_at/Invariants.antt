@@ -7,5 +7,5 @@ use Rattle.positions.proofs.lots.LotsTable.charge_at.Given as goal
 
 abbrev pub invariant-loop-instrument : goal.invariant-loop-instrument
 invariant-loop-instrument g l =
-    (l.sum ≡ sum_below l.instrument-index (amount_at g.T.Tariff.charged (sheet_of l.self).factor ((sheet_of l.self).held l.m)))
+    (l.sum ≡ sum_below l.instrument-index (amount_at g.T.Tariff.charged (sheet_of l.self).factor ((sheet_of l.self).held l.m.number)))
     × (l.sum ≤ most * l.instrument-index)

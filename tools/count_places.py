@@ -37,7 +37,8 @@ def functions(text):
     for match in FUNCTION.finditer(text):
         indent = match.group(1)
         rest = text[match.start():]
-        end = re.search(rf"^{indent}(?:\}}|\{{\}})$|;$", rest, re.M)
+        declared = re.search(r";$|\{$|\{\}$", rest, re.M)
+        end = declared if declared and declared.group(0) == ";" else re.search(rf"^{indent}(?:\}}|\{{\}})$", rest, re.M)
         whole = rest[: end.end()] if end else rest
         split = re.search(rf"^{indent}\{{$| \{{$", whole, re.M)
         header, body = (whole[: split.start()], whole[split.end():]) if split else (whole, "")

@@ -1,12 +1,14 @@
 -- What every call of a venue promises: what it does is what the rules say.
-use Rattle.std.specs.Prelude.{◌≡◌, ℕ, List, ◌++◌, length, drop, Ok, Err, Result, MatchResult}
+use Rattle.std.specs.Prelude.{◌≡◌, ℕ, Bool, not, ◌||◌, List, ◌++◌, length, drop, Ok, Err, Result, MatchResult}
 use Rattle.margin.specs.Sheets.{Charge}
 use Rattle.market.specs.declared.calls.Answer.{Answer}
 use Rattle.market.specs.declared.calls.Call.{Call}
+use Rattle.market.specs.declared.calls.Phase.{Phase}
+use Rattle.market.specs.declared.calls.Phase.TheVariants.{SetUp, Open as OpenPhase, Closed}
 use Rattle.market.specs.declared.events.Event.{Event}
 use Rattle.market.specs.declared.refusals.Refusal.{Refusal}
 use Rattle.market.specs.Markets.{Market}
-use Rattle.market.specs.Grounds.{Ground, checked}
+use Rattle.market.specs.Grounds.{Ground, checked, is_set_up, is_open}
 use Rattle.market.specs.Calls.{outcome}
 
 -- Of a call on a venue with a list lent to it: its answer, the venue after it and the list after it.
@@ -25,3 +27,9 @@ as_answer kind (Err refusal) = Err refusal
 abbrev pub Passes : {A : Type 0} → List Ground → A → Result A Refusal → Type 0
 Passes grounds value tested =
     MatchResult tested (λ passed. (passed ≡ value) × (Ok tt ≡ checked grounds)) (λ refusal. Err refusal ≡ checked grounds)
+
+-- The test of one phase, whichever it is.
+abbrev pub is_phase : Phase → Phase → Bool
+is_phase SetUp phase = is_set_up phase
+is_phase OpenPhase phase = is_open phase
+is_phase Closed phase = not (is_set_up phase || is_open phase)

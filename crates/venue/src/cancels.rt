@@ -9,7 +9,7 @@ ghost use Rattle.venue.specs.Reads.{market_of};
 ghost use Rattle.venue.specs.Turns.{pending_count, Did};
 
 use crate::event_list::EventList;
-use crate::grounds::{check_list, check_open};
+use crate::grounds::{check_list, check_phase};
 use crate::state::Venue;
 use book::picked::Picked;
 use margin::keeper::Keeper;
@@ -78,7 +78,7 @@ impl<K: Keeper> Venue<K> {
         ensures long { OnOk result (257 ≤ places) }
     {
         check_list(places)?;
-        check_open(self.phase)
+        check_phase(self.phase, Phase::Open)
     }
 
     fn check_cancel_all(&self, member: u8, places: usize) -> Result<(), Refusal>

@@ -1,6 +1,7 @@
 ghost use Rattle.std.specs.Prelude.{◌≡◌, ◌≤◌, [], ◌∷◌, not, ◌||◌, OnOk};
 ghost use Rattle.market.specs.declared.refusals.Refusal.TheVariants.{ListTooShort as TooShort, WrongPhase as Wrong};
 ghost use Rattle.market.specs.Grounds.{checked, ◌when◌, is_short, is_set_up, is_open};
+ghost use Rattle.venue.specs.Obeys.{is_phase};
 
 use crate::state::LIST_PLACES;
 use market::calls::Phase;
@@ -19,21 +20,11 @@ pub(crate) fn check_list(places: usize) -> Result<(), Refusal>
     Ok(())
 }
 
-/// A call that belongs to set-up.
-pub(crate) fn check_set_up(phase: Phase) -> Result<(), Refusal>
-    ensures { result ≡ checked ((Wrong when not (is_set_up phase)) ∷ []) }
+/// A call that belongs to one phase.
+pub(crate) fn check_phase(phase: Phase, wanted: Phase) -> Result<(), Refusal>
+    ensures { result ≡ checked ((Wrong when not (is_phase wanted phase)) ∷ []) }
 {
-    if phase != Phase::SetUp {
-        return Err(Refusal::WrongPhase);
-    }
-    Ok(())
-}
-
-/// A call that belongs to the open phase.
-pub(crate) fn check_open(phase: Phase) -> Result<(), Refusal>
-    ensures { result ≡ checked ((Wrong when not (is_open phase)) ∷ []) }
-{
-    if phase != Phase::Open {
+    if phase != wanted {
         return Err(Refusal::WrongPhase);
     }
     Ok(())

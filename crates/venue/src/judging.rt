@@ -59,18 +59,11 @@ impl<K: Keeper> Venue<K> {
         ensures market { market_of K.Keeper.sheet self.new ≡ with_member (market_of K.Keeper.sheet self.old) member (judged_member (need K.Keeper.charge (market_of K.Keeper.sheet self.old) member) ((market_of K.Keeper.sheet self.old).members member)) }
         ensures fallen { result ≡ has_fallen K.Keeper.charge (market_of K.Keeper.sheet self.old) member }
     {
-        if usize::from(member) >= MEMBERS {
+        let m = usize::from(member);
+        if m >= MEMBERS {
             return false;
         }
-        self.judge_in_table(member)
-    }
-
-    fn judge_in_table(&mut self, member: u8) -> bool
-        requires { member < 32 }
-        ensures market { market_of K.Keeper.sheet self.new ≡ with_member (market_of K.Keeper.sheet self.old) member (judged_member (need K.Keeper.charge (market_of K.Keeper.sheet self.old) member) ((market_of K.Keeper.sheet self.old).members member)) }
-        ensures fallen { result ≡ has_fallen K.Keeper.charge (market_of K.Keeper.sheet self.old) member }
-    {
         let need = self.keeper.need(member);
-        judge_row(&mut self.members.rows[usize::from(member)], need)
+        judge_row(&mut self.members.rows[m], need)
     }
 }

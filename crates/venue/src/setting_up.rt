@@ -10,7 +10,7 @@ ghost use Rattle.market.specs.TableRows.{admitted_row, defined_row};
 ghost use Rattle.venue.specs.Obeys.{Obeys, as_answer, Passes};
 ghost use Rattle.venue.specs.Reads.{market_of};
 
-use crate::grounds::check_set_up;
+use crate::grounds::check_phase;
 use crate::state::{HIGHEST_LOTS, INSTRUMENTS, MEMBERS, Table, Venue};
 use book::books::Book;
 use margin::keeper::Keeper;
@@ -73,7 +73,7 @@ impl<K: Keeper> Venue<K> {
     pub fn open(&mut self) -> Result<(), Refusal>
         ensures { Obeys K.Keeper.charge K.Keeper.REACH Open (market_of K.Keeper.sheet self.old) (market_of K.Keeper.sheet self.new) (as_answer (λ _. Done) result) [] [] }
     {
-        check_set_up(self.phase)?;
+        check_phase(self.phase, Phase::SetUp)?;
         self.phase = Phase::Open;
         Ok(())
     }
@@ -86,7 +86,7 @@ impl<K: Keeper> Venue<K> {
     ) -> Result<Benchmarks, Refusal>
         ensures { Passes (admit_grounds (market_of K.Keeper.sheet self.now) member benchmarks limits.now) (admitted benchmarks limits.now).benchmarks result }
     {
-        check_set_up(self.phase)?;
+        check_phase(self.phase, Phase::SetUp)?;
         if member > 31 {
             return Err(Refusal::NoSuchMember);
         }
@@ -124,7 +124,7 @@ impl<K: Keeper> Venue<K> {
     ) -> Result<Instrument, Refusal>
         ensures { Passes (define_grounds (market_of K.Keeper.sheet self.now) instrument benchmark group factor) (record { benchmark = (defined benchmark group).benchmark; group = (defined benchmark group).group }) result }
     {
-        check_set_up(self.phase)?;
+        check_phase(self.phase, Phase::SetUp)?;
         if instrument > 15 {
             return Err(Refusal::NoSuchInstrument);
         }

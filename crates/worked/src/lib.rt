@@ -14,18 +14,13 @@ use terms::{Side, Term};
 
 /// The calls of the worked session: an instrument is defined, three members are admitted, and six orders placed. Its answers and
 /// events are among the worked examples, which this contract states.
+#[tactic(auto, using(crate::proofs::Examples::worked_examples))]
 pub fn session_log() -> [Call; 14]
     ensures calls { result ≡ session_calls }
     ensures worked_examples { WorkedExamples }
 {
-    examples_hold();
     calls()
 }
-
-// What is proved of the rules alone: there is nothing to do.
-fn examples_hold()
-    ensures { WorkedExamples }
-{}
 
 fn calls() -> [Call; 14]
     ensures { result ≡ session_calls }

@@ -1,7 +1,7 @@
-use Rattle.std.proofs.Common.{◌≡◌, ◌-◌, map, length, drop, filter, sym, ap, ◌∙◌, arith, lit<}
+use Rattle.std.proofs.Common.{◌-◌, map, length, drop, filter, sym, ap, ◌∙◌, arith}
 use Rattle.std.proofs.lemmas.List.{length-map, length_push, length-reverse}
 use Rattle.std.proofs.lemmas.Iterator.Adapters.{YieldsList-from_rev_slice}
-use Rattle.std.proofs.lemmas.Iterator.Consumers.{YieldsList-turn, YieldsList-end}
+use Rattle.std.proofs.lemmas.Iterator.Consumers.{YieldsList-turn}
 use Rattle.market.specs.Cancels.{by_number, has_lower_number}
 use Rattle.book.specs.Picks.{picks}
 use Rattle.book.specs.Reads.{order_of, leaving_order}
@@ -14,11 +14,6 @@ loop-entry-init c = record {
   collected = ap (map leaving_order) c.new-orders.ensures ∙ none_collected (picks c.args.picked.now) (map order_of c.args.entries.now) _ (omega (arith, length-map c.args.entries.now order_of));
   few = omega (arith, ap length c.new-orders.ensures);
 }
-
-pub put_in_order-requires : goal.put_in_order-requires
-put_in_order-requires c =
-    let t = YieldsList-turn (YieldsList-from_rev_slice c.args.entries.now cc) c.loop-entry.yielded _ c.loop-entry.yielded_by _ _ c.in-Some.entry c.in-Some.is c.next.ensures.steps in
-    (lit< tt, omega (arith, t.0, length-reverse c.args.entries.now, c.loop-entry.invariant.few, c.requires))
 
 pub loop-entry-preserved-then-picks : goal.loop-entry-preserved-then-picks
 loop-entry-preserved-then-picks c =
@@ -39,9 +34,3 @@ loop-entry-preserved c =
           ∙ ap (λ n. by_number (filter (picks c.args.picked.now) (drop (length c.args.entries.now - n) (map order_of c.args.entries.now)))) (sym one_more);
       few = omega (arith, c.loop-entry.invariant.few, one_more);
     }
-
-pub returns : goal.returns
-returns c =
-    let t = YieldsList-end (YieldsList-from_rev_slice c.args.entries.now cc) c.loop-entry.yielded _ c.loop-entry.yielded_by _ _ c.in-None.is c.next.ensures.steps in
-    let all : length c.args.entries.now - length c.loop-entry.yielded ≡ 0 = omega (arith, t.1, length-reverse c.args.entries.now) in
-    c.loop-entry.invariant.collected ∙ ap (λ k. by_number (filter (picks c.args.picked.now) (drop k (map order_of c.args.entries.now)))) all

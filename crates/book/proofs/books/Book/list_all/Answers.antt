@@ -1,4 +1,4 @@
-use Rattle.std.proofs.Common.{◌≡◌, ◌-◌, ◌++◌, map, length, drop, ap, ◌∙◌, arith, subst}
+use Rattle.std.proofs.Common.{◌≡◌, ◌++◌, map, length, drop, ap, ◌∙◌, arith, subst}
 use lib.ListN.{length-map}
 use Rattle.terms.specs.declared.Side.TheVariants.{Bid, Offer}
 use Rattle.market.specs.Markets.{listed}
@@ -17,8 +17,8 @@ list_side-end-requires c =
     let told = length-map (rows_in entries Bid c.args.instrument) (listed Bid) in
     omega (arith, both_rows entries c.args.instrument, c.list_side-bids.ensures.count, wrote_length _ _ _ _ _ c.list_side-bids.ensures)
 
-pub returns : goal.returns
-returns c =
+pub returns-clause-after : goal.returns-clause-after
+returns-clause-after c =
     let book = c.args.self.now in
     let is = c.as_slice-entries.ensures.value in
     let bids_told = subst (λ es. Wrote c.args.list.now c.list_side-bids.new.list 0 c.list_side-bids.result (map (listed Bid) (rows_in es Bid c.args.instrument))) is c.list_side-bids.ensures in
@@ -28,10 +28,5 @@ returns c =
     let first = bids_told.count in
     let second = offers_told.count in
     let both = wrote_both _ _ _ _ _ _ _ _ bids_told offers_told in
-    let bid_count : c.list_side-bids.result ≡ length (rows_of book Bid c.args.instrument) = omega arith in
-    let offer_count : c.list_side-end.result - c.list_side-bids.result ≡ length (rows_of book Offer c.args.instrument) = omega arith in
     let end : c.list_side-end.result ≡ length (listing_in (rows_of book) c.args.instrument) = both.count ∙ omega arith in
-    record {
-      answer = λ k. record { bids = bid_count k; offers = offer_count k };
-      after = both.places ∙ ap (λ n. listing_in (rows_of book) c.args.instrument ++ drop n c.args.list.now) end;
-    }
+    both.places ∙ ap (λ n. listing_in (rows_of book) c.args.instrument ++ drop n c.args.list.now) end

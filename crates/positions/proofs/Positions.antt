@@ -1,22 +1,14 @@
 -- The amount on one member's position in one instrument, as the sheet has it.
-use Rattle.std.proofs.Common.{◌≡◌, ℕ, ◌<◌, true, List, length, get_or, is_err, Ok, Err, Result, sym, refl, ◌∙◌, ap₂}
-use Rattle.std.proofs.lemmas.Bool.{cond-true}
+use Rattle.std.proofs.Common.{◌≡◌, ℕ, ◌<◌, List, length, get_or, sym, ◌∙◌}
 use Rattle.terms.specs.declared.Side.{Side}
 use Rattle.terms.specs.declared.Side.TheVariants.{Bid, Offer}
-use Rattle.margin.specs.declared.refusal.KeeperRefusal.{KeeperRefusal}
-use Rattle.margin.specs.Sheets.{raised, can_record}
+use Rattle.margin.specs.Sheets.{raised}
 use Rattle.margin.proofs.Raises.{raised_alike}
 use Rattle.positions.specs.declared.lots.InstrumentLots.{InstrumentLots}
 use Rattle.positions.specs.declared.lots.Position.{Position}
-use Rattle.positions.specs.declared.lots.AmountChange.{AmountChange}
-use Rattle.positions.specs.Charges.{Amount, amount_at, amounts_with}
+use Rattle.positions.specs.Charges.{Amount, amount_at}
 use Rattle.positions.specs.Reads.{lots_in, sheet_of, IsPosition}
 use Rattle.positions.proofs.Sheets.{table_of, factor_at, held_at}
-
--- A keeper has one refusal.
-pub only_refusal : {A : Type 0} (r : Result A KeeperRefusal) → is_err r ≡ true → r ≡ Err (record {})
-only_refusal (Ok n) e = cc
-only_refusal (Err x) e = refl
 
 module _ (amount : Amount) {reach : ℕ} (xs : List (InstrumentLots reach)) (i : ℕ) (x : InstrumentLots reach) (l : i < 16) (h : i < length xs) (m : ℕ) where
   pub amount_now : (p : Position) → IsPosition (get_or xs i x).factor (lots_in (get_or xs i x)) m p → amount p.factor p.lots.bought p.lots.sold ≡ amount_at amount (sheet_of (table_of xs)).factor ((sheet_of (table_of xs)).held m) i
@@ -33,9 +25,3 @@ module _ (amount : Amount) {reach : ℕ} (xs : List (InstrumentLots reach)) (i :
       let bought : p.lots.bought ≡ raised ((sheet_of (table_of xs)).held m) s i q Bid i = is.totals Bid ∙ same Bid in
       let sold : p.lots.sold ≡ raised ((sheet_of (table_of xs)).held m) s i q Offer i = is.totals Offer ∙ same Offer in
       cc
-
-  pub amounts_done : (within : ℕ) (s : Side) (q : ℕ) (change : AmountChange) → can_record within (sheet_of (table_of xs)) m i s q ≡ true
-      → change.before ≡ amount_at amount (sheet_of (table_of xs)).factor ((sheet_of (table_of xs)).held m) i
-      → change.after ≡ amount_at amount (sheet_of (table_of xs)).factor (raised ((sheet_of (table_of xs)).held m) s i q) i
-      → Ok change ≡ amounts_with amount within (sheet_of (table_of xs)) m i s q
-  amounts_done within s q change can b a = ap₂ (λ (y z : ℕ). Ok (record { before = y; after = z })) b a ∙ sym (cond-true _ _ _ can)

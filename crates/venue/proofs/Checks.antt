@@ -1,10 +1,8 @@
--- Grounds tested in parts, and what is left once none is met.
+-- Grounds tested in parts, and the room in a book.
 use Rattle.std.proofs.Common.{◌≡◌, ℕ, ◌≤◌, Bool, true, false, cond, List, [], ◌∷◌, ◌++◌, length, Ok, Err, refl, arith}
-use Rattle.std.proofs.lemmas.Bool.{ltb-false}
 use Rattle.market.specs.declared.refusals.Refusal.{Refusal}
-use Rattle.market.specs.declared.refusals.Refusal.TheVariants.{ListTooShort}
 use Rattle.market.specs.Markets.{pending_orders}
-use Rattle.market.specs.Grounds.{Ground, ◌when◌, checked, is_short}
+use Rattle.market.specs.Grounds.{Ground, checked}
 use Rattle.book.specs.declared.books.Book.{Book}
 use Rattle.book.specs.Reads.{rows_of}
 use Rattle.book.proofs.Places.{count_is}
@@ -25,18 +23,6 @@ checked_next (g ∷ gs) hs u h = go g.is_met h (checked_next gs hs u)
     go true d others = absurd (let z : ◌≡◌ {A = ℕ} 0 1 = cc in omega arith)
     go false d others = others d
 
--- A call that passed has a list of 257 places at least.
-pub long_enough : (places : ℕ) (gs : List Ground) → Ok tt ≡ checked ((ListTooShort when is_short places) ∷ gs) → 257 ≤ places
-long_enough places gs ok = go (is_short places) refl ok
-  where
-    go : (b : Bool) → is_short places ≡ b → Ok tt ≡ cond b (Err ListTooShort) (checked gs) → 257 ≤ places
-    go true e f = absurd (let z : ◌≡◌ {A = ℕ} 0 1 = cc in omega arith)
-    go false e f = ltb-false places 257 e
-
 -- A book has 256 places.
 pub pending_few : (book : Book) → length (pending_orders (rows_of book)) ≤ 256
 pending_few book = let room = book.room in omega (arith, count_is book)
-
--- So such a list has a place for each pending order.
-pub room_for_all : (book : Book) (places : ℕ) (gs : List Ground) → Ok tt ≡ checked ((ListTooShort when is_short places) ∷ gs) → length (pending_orders (rows_of book)) ≤ places
-room_for_all book places gs ok = omega (arith, long_enough places gs ok, pending_few book)

@@ -13,6 +13,8 @@ use crate::ordered::put_in_order;
 use arrayvec::ArrayVec;
 use terms::{Order, Side};
 
+// Side and instrument come one by one, as whoever asks has them; together they would be taken apart again in `is_at`.
+
 impl Book {
     pub fn empty() -> Self
         ensures { entries_of result ≡ [] }

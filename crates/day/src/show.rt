@@ -64,6 +64,7 @@ pub(crate) fn standing_words(
 }
 
 // A whole number with a comma between thousands.
+// As in the program `demo`: a crate for these lines, with a contract on text and tests of memory, would be no plainer.
 fn grouped(heap: Global, n: u64) -> Result<String, AllocError> {
     let (thousands, units) = (n / 1_000, n % 1_000);
     let (millions, thousand) = (thousands / 1_000, thousands % 1_000);

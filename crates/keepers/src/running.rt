@@ -64,6 +64,7 @@ impl RunningKeeper {
         ensures after { sheet_of self.new.table ≡ after_record 100000 (sheet_of self.old.table) member instrument side lots }
     {
         self.table.record(member, instrument, side, lots)?;
+        // By `as`: after `usize::from` the proof that the needs are up to date does not close.
         self.needs[member as usize] = need;
         Ok(())
     }
@@ -106,7 +107,7 @@ impl Keeper for RunningKeeper {
     }
 
     fn need(&self, member: u8) -> u64 {
-        self.needs.get(member as usize).copied().unwrap_or(0)
+        self.needs.get(usize::from(member)).copied().unwrap_or(0)
     }
 
     fn need_with(

@@ -14,7 +14,8 @@ pub enum Phase {
     Closed,
 }
 
-/// A call of a venue. Its values may be any: the venue refuses those that the rules refuse.
+/// A call of a venue. Its values may be any: the venue refuses those that the rules refuse. So benchmarks and groups of tenors
+/// come by number, as to the calls themselves: an enum would ask more of a caller.
 #[derive(Clone, Copy, PartialEq, Eq, Debug)]
 pub enum Call {
     /// Benchmarks by number: 1 MIBOR, 2 MMFOR, 3 both.

@@ -76,6 +76,8 @@ pub enum Event {
 }
 
 /// What a list for events may be filled with before its first call. No call tells it, since numbers begin at 1.
+///
+/// Written out, since an enum derives `Default` only for a variant with no fields.
 pub const BLANK_EVENT: Event = Event::Cancelled(Cancellation {
     number: 0,
     member: 0,

@@ -6,6 +6,9 @@ ghost use Rattle.row.specs.Rows.{inserted, without, count_answer, insert_answer,
 use crate::precedence::Precedence;
 use crate::refusal::RowRefusal;
 
+// Over a lent slice with the count of its entries beside it: a row keeps no memory of its own, and allocates none, whatever holds
+// its entries.
+
 /// Puts an entry among the first `n` of the slice, where its precedence says, and answers their new count.
 pub fn insert<E: Precedence>(row: &mut [E], n: usize, entry: E) -> Result<usize, RowRefusal>
     ensures answer { result ≡ insert_answer n row.old }

@@ -26,6 +26,7 @@ pub(crate) fn print_events<W: Write>(
     events: &[Event],
     count: usize,
 ) -> io::Result<()> {
+    // By `take`: the count of an answer is not proved here to be within the list.
     for event in events.iter().take(count) {
         print_event(output, event)?;
     }

@@ -51,6 +51,7 @@ impl<K: Keeper> Venue<K> {
         ensures met { Met (met K.Keeper.charge K.Keeper.REACH incoming.old.number incoming.old.order (market_of K.Keeper.sheet self.old)) (market_of K.Keeper.sheet self.new) incoming.new.rest list.old.places.now list.new.places.now 0 list.new.told }
         ensures few { list.new.told + pending_count (market_of K.Keeper.sheet self.new) + min 1 incoming.new.rest ≤ pending_count (market_of K.Keeper.sheet self.old) + 1 }
     {
+        // Not an index: each turn that goes on takes a lot at least, so that there are no more turns than lots.
         for _ in 0..incoming.order.lots {
             if !self.turn(incoming, list) {
                 return;

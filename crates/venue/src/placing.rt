@@ -100,6 +100,7 @@ impl<K: Keeper> Venue<K> {
         let mut sum: u32 = 0;
         for (i, row) in self.instruments.rows.iter().enumerate() {
             if is_long_row(row) {
+                // There are 16 rows, so the cast loses nothing.
                 sum += self.book.pending(Part::Instrument(i as u8), member);
             }
         }

@@ -44,7 +44,7 @@ impl<K: Keeper> Venue<K> {
         }
     }
 
-    /// Gives a member its benchmarks and limits. It begins with no deposit, in reduction mode.
+    /// Gives a member its benchmarks, by number, and its limits. It begins with no deposit, in reduction mode.
     pub fn admit(&mut self, member: u8, benchmarks: u8, limits: Limits) -> Result<(), Refusal>
         ensures { Obeys K.Keeper.charge K.Keeper.REACH (Admit member benchmarks limits) (market_of K.Keeper.sheet self.old) (market_of K.Keeper.sheet self.new) (as_answer (λ _. Done) result) [] [] }
     {
@@ -53,7 +53,7 @@ impl<K: Keeper> Venue<K> {
         Ok(())
     }
 
-    /// Gives an instrument its benchmark, group of tenors and factor, and sets the factor in the keeper.
+    /// Gives an instrument its benchmark and group of tenors, by number, and its factor, and sets the factor in the keeper.
     pub fn define(
         &mut self,
         instrument: u8,

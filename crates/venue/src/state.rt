@@ -31,6 +31,8 @@ pub type Members = Table<Member, MEMBERS>;
 pub type Instruments = Table<Instrument, INSTRUMENTS>;
 
 /// A venue over a margin keeper.
+///
+/// Its calls take their arguments one by one, as whoever makes them has them; `Call` holds them together.
 #[derive(Drop)]
 pub struct Venue<K> {
     pub(crate) phase: Phase,

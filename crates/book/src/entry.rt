@@ -1,5 +1,5 @@
 ghost use Rattle.std.specs.Prelude.{◌≡◌};
-ghost use Rattle.book.specs.Entries.{Precedes as StandsBefore, Alike as SamePlace, precedes as stands_before, HasLowerNumber};
+ghost use Rattle.book.specs.Entries.{Precedes as StandsBefore, Alike as SamePlace, precedes as entry_precedes, HasLowerNumber};
 ghost use Rattle.market.specs.Cancels.{has_lower_number};
 ghost use Rattle.std.proofs.Common.{rules};
 
@@ -21,7 +21,7 @@ impl Precedence for Entry {
 
     ghost Alike = { SamePlace };
 
-    ghost test = { stands_before };
+    ghost test = { entry_precedes };
 
     ghost test_says_precedes = { Prim.search rules };
 

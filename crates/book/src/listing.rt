@@ -1,5 +1,4 @@
 ghost use Rattle.std.specs.Prelude.{◌≡◌, ◌+◌, ◌≤◌, ◌++◌, map, length, drop, if◌then◌else◌, Some, None, nat_lt};
-ghost use Rattle.terms.specs.declared.Side.TheVariants.{Bid as BidSide, Offer as OfferSide};
 ghost use Rattle.market.specs.Lists.{Wrote};
 ghost use Rattle.market.specs.Markets.{listed};
 ghost use Rattle.book.specs.Reads.{rows_in, rows_of, counts_of, listing_in};
@@ -7,12 +6,9 @@ ghost use Rattle.book.specs.Reads.{rows_in, rows_of, counts_of, listing_in};
 use crate::books::Book;
 use crate::entry::Entry;
 use crate::orders::is_at;
-use market::calls::ListingCounts;
+use market::calls::{LIST_PLACES, ListingCounts};
 use market::orders::Listed;
 use terms::Side;
-
-/// How many places a list for a listing has to have.
-pub const LISTING_PLACES: usize = 257;
 
 impl Book {
     /// Writes an instrument's bids first to last, then its offers, and answers how many; none if the list has fewer than 257 places.
@@ -20,7 +16,7 @@ impl Book {
         ensures answer { result ≡ (if nat_lt (length list.old) 257 then None else Some (counts_of (rows_of self.now) instrument)) }
         ensures after { list.new ≡ (if nat_lt (length list.old) 257 then list.old else listing_in (rows_of self.now) instrument ++ drop (length (listing_in (rows_of self.now) instrument)) list.old) }
     {
-        if list.len() < LISTING_PLACES {
+        if list.len() < LIST_PLACES {
             return None;
         }
         Some(self.list_all(instrument, list))

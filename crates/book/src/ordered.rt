@@ -11,6 +11,7 @@ pub(crate) fn put_in_order<E: Precedence>(entries: &mut ArrayVec<E, PLACES>, ent
     requires { array_vec_len entries.old < 256 }
     ensures { entries.new.items ≡ inserted E.Precedence.test entry entries.old.items }
 {
+    // The push makes room: the insert writes over the last place.
     let n = entries.len();
     entries.push(entry);
     let _ = row::insert(entries.as_mut_slice(), n, entry);

@@ -11,11 +11,11 @@ use keepers::gross::GrossKeeper;
 use keepers::reckoner::Reckoner;
 use keepers::running::RunningKeeper;
 use margin::keeper::Keeper;
-use market::calls::Answer;
+use market::calls::{Answer, LIST_PLACES};
 use market::events::{BLANK_EVENT, Event};
 use market::refusals::Refusal;
 use std::io;
-use venue::state::{LIST_PLACES, Venue};
+use venue::state::Venue;
 
 const INTRODUCTION: &str = "A day at the venue
 
@@ -30,6 +30,7 @@ fn tell(rt: &HostRuntime, line: &str) -> io::Result<()> {
 }
 
 fn tell_events(rt: &HostRuntime, events: &[Event], count: usize) -> io::Result<()> {
+    // By `take`: the count of an answer is not proved here to be within the list.
     for event in events.iter().take(count) {
         tell(rt, event_line(rt.alloc(), event)?.as_str())?;
     }

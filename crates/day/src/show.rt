@@ -64,7 +64,8 @@ pub(crate) fn standing_words(
 }
 
 // A whole number with a comma between thousands.
-// As in the program `demo`: a crate for these lines, with a contract on text and tests of memory, would be no plainer.
+// As in the program `demo`. In a crate for both it would need a contract: that of the text was tried, and the proof of groups
+// with zeros before them did not close.
 fn grouped(heap: Global, n: u64) -> Result<String, AllocError> {
     let (thousands, units) = (n / 1_000, n % 1_000);
     let (millions, thousand) = (thousands / 1_000, thousands % 1_000);

@@ -150,6 +150,8 @@ fn tell_row(
     println!(rt; "    {label:<20} {reckoner:>12} {running:>16} {gross:>14}")
 }
 
+// The rows differ in what they ask of a keeper; the keepers are of three types, over which no one closure could be.
+
 fn compare_needs(rt: &HostRuntime, desk: &Desk, member: u8) -> io::Result<()> {
     let reckoner = grouped(rt.alloc(), desk.reckoner.need(member))?;
     let running = grouped(rt.alloc(), desk.running.need(member))?;

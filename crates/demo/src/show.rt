@@ -7,7 +7,8 @@ use std::alloc::{AllocError, Global};
 use terms::Side;
 
 /// A whole number with a comma between thousands.
-// As in the program `day`: a crate for these lines, with a contract on text and tests of memory, would be no plainer.
+// As in the program `day`. In a crate for both it would need a contract: that of the text was tried, and the proof of groups
+// with zeros before them did not close.
 pub(crate) fn grouped(heap: Global, n: u64) -> Result<String, AllocError> {
     let (thousands, units) = (n / 1_000, n % 1_000);
     let (millions, thousand) = (thousands / 1_000, thousands % 1_000);

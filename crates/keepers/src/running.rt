@@ -15,6 +15,8 @@ use terms::Side;
 
 /// The running keeper: the standard charge, each member's kept beside the lots and brought up to date at each record.
 ///
+/// The needs stand beside the table, one number for each member, tied to it by `up_to_date`.
+///
 /// It has a table and no `SummingKeeper`: `need_with` asks for amounts, which no keeper answers, and what passes calls on is
 /// a line a call either way.
 #[derive(Drop)]
@@ -64,7 +66,7 @@ impl RunningKeeper {
         ensures after { sheet_of self.new.table ≡ after_record 100000 (sheet_of self.old.table) member instrument side lots }
     {
         self.table.record(member, instrument, side, lots)?;
-        // By `as`: after `usize::from` the proof that the needs are up to date does not close.
+        // By `as`: with `usize::from`, as tried, the index is what a call gives, and the proof that the needs are up to date stays open.
         self.needs[member as usize] = need;
         Ok(())
     }

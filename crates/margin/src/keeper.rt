@@ -10,7 +10,8 @@ use terms::Side;
 ///
 /// A factor is 1 to 100,000 rupees a lot. Members are 0 to 31, instruments 0 to 15.
 ///
-/// Calls take member, instrument, side and lots one by one, as whoever makes them has them.
+/// Calls take member, instrument, side and lots one by one: a keeper looks each of them up on its own, and a struct of the four
+/// would be taken apart in each.
 pub trait Keeper {
     /// The keeper's reach: the most lots that one total may come to, 1 to 100,000.
     const REACH: u32;
@@ -24,7 +25,7 @@ pub trait Keeper {
     /// The charge on factors and one member's totals.
     ghost charge: { Charge };
 
-    /// `REACH`, for generic code that has to know it.
+    /// `REACH`, by a call.
     fn highest_total() -> u32
         ensures { result ≡ REACH }
     {

@@ -4,6 +4,9 @@ ghost use Rattle.market.specs.Answers.{events_told};
 use crate::members::{Limits, Standing};
 use crate::orders::{NewOrder, Quote};
 
+/// How many places a list for events or for a listing has to have: the most events that a call tells.
+pub const LIST_PLACES: usize = 257;
+
 /// The part of the day that a venue is in.
 #[derive(Clone, Copy, PartialEq, Eq, Debug)]
 pub enum Phase {

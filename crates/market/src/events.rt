@@ -23,6 +23,22 @@ pub enum Reason {
     Closing,
 }
 
+impl Reason {
+    /// The reason in words, for people.
+    pub fn words(&self) -> &'static str
+        ensures { result.now ≡ reason_words self.now }
+    {
+        match self {
+            Reason::Asked => "asked for by the member",
+            Reason::NotMetAtOnce => "immediate order not met at once",
+            Reason::OwnOrder => "came to an order of the same member",
+            Reason::TurnedToReduction => "member turned to reduction mode",
+            Reason::NeedNotLowered => "would not lower the need in reduction mode",
+            Reason::Closing => "the venue closed",
+        }
+    }
+}
+
 impl fmt::Display for Reason {
     ghost output = { λ reason. Some (reason_words reason) };
 

@@ -9,4 +9,3 @@ pub mod members;
 pub mod numbers;
 pub mod orders;
 pub mod refusals;
-mod wording;

@@ -6,7 +6,7 @@ use crate::instruments::{Benchmark, TenorGroup};
 use crate::members::Benchmarks;
 use crate::refusals::Refusal;
 
-// `number` and `numbered` are these conversions under a name of their own, which reads better where a number is printed.
+// `number` and `numbered` are public names of these conversions, which stay for those who call them.
 
 /// A number that stands for nothing where it was given.
 #[derive(Clone, Copy, PartialEq, Eq, Debug)]

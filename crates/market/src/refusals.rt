@@ -49,6 +49,35 @@ pub enum Refusal {
     NumbersUsedUp,
 }
 
+impl Refusal {
+    /// The refusal in words, for people.
+    pub fn words(&self) -> &'static str
+        ensures { result.now ≡ refusal_words self.now }
+    {
+        match self {
+            Refusal::ListTooShort => "the list has fewer than 257 places",
+            Refusal::WrongPhase => "the call does not belong to this phase",
+            Refusal::NoSuchMember => "there is no such member",
+            Refusal::NoSuchInstrument => "there is no such instrument",
+            Refusal::AlreadyThere => "it is already there",
+            Refusal::ValueOutOfRange => "a value is out of range",
+            Refusal::AmountOutOfRange => "the amount is out of range",
+            Refusal::DepositNeeded => "the deposit is needed as margin",
+            Refusal::BenchmarkNotOpted => "the member has not opted for this benchmark",
+            Refusal::LotsOutOfRange => "the lots are 0 or pass the single order limit",
+            Refusal::RateOutOfRange => "the rate is out of range",
+            Refusal::AccumulatedLimitPassed => "the accumulated order limit is passed",
+            Refusal::OverFiveYearsLimitPassed => "the limit on orders of over five years is passed",
+            Refusal::ReachPassed => "the lots on this side pass what the margin keeper can hold",
+            Refusal::DayOrderInReduction => "no day orders in reduction mode",
+            Refusal::NeedNotLowered => "in reduction mode an order has to lower the need",
+            Refusal::NoSuchOrder => "the member has no pending order of this number",
+            Refusal::BookFull => "256 orders are pending",
+            Refusal::NumbersUsedUp => "all order numbers are given out",
+        }
+    }
+}
+
 impl fmt::Display for Refusal {
     ghost output = { λ refusal. Some (refusal_words refusal) };
 
@@ -64,6 +93,6 @@ impl From<UnknownNumber> for Refusal {
     ghost from_gives = { λ _ refusal. refusal ≡ OutOfRange };
 
     fn from(_number: UnknownNumber) -> Refusal {
-        Refusal::ValueOutOfRange
+        Self::ValueOutOfRange
     }
 }

@@ -9,7 +9,8 @@ use crate::tariff::Tariff;
 use margin::refusal::KeeperRefusal;
 use terms::Side;
 
-// The calls. Each finds the places that its numbers name, and leaves the work to a function below that is given them.
+// The calls. Each finds the places that its numbers name, and leaves the work to a function below that is given them. Their
+// arguments are those of a keeper's calls, one by one as there.
 impl<const REACH: u32> LotsTable<REACH> {
     /// No factor and no lots.
     pub fn fresh() -> Self

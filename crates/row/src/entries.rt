@@ -6,6 +6,8 @@ ghost use Rattle.std.proofs.Common.{rules};
 use crate::precedence::Precedence;
 use terms::{Order, Side};
 
+// Two types and not one with a const parameter, which an alias cannot construct as `Bid(..)` and `Offer(..)` do; each impl is a line.
+
 /// A bid: the higher rate precedes, and at one rate the lower number.
 #[derive(Clone, Copy, PartialEq, Eq, Debug)]
 pub struct Bid(pub Order);

@@ -7,7 +7,7 @@ use crate::precedence::Precedence;
 use crate::refusal::RowRefusal;
 
 // Over a lent slice with the count of its entries beside it: a row keeps no memory of its own, and allocates none, whatever holds
-// its entries.
+// its entries. The functions that move entries take the whole slice too, since their contracts say what stays behind the row.
 
 /// Puts an entry among the first `n` of the slice, where its precedence says, and answers their new count.
 pub fn insert<E: Precedence>(row: &mut [E], n: usize, entry: E) -> Result<usize, RowRefusal>

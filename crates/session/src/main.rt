@@ -8,11 +8,12 @@ mod set_up;
 use crate::output::{print_answer, print_events};
 use crate::set_up::set_up;
 use keepers::reckoner::Reckoner;
+use market::calls::LIST_PLACES;
 use market::events::{BLANK_EVENT, Event};
 use std::alloc::Global;
 use std::io;
 use std::io::{BufWriter, Read, Write};
-use venue::state::{LIST_PLACES, Venue};
+use venue::state::Venue;
 
 /// The bytes of 8,000 messages of 8 bytes. Later messages are not read.
 const MOST_BYTES: u64 = 64_000;

@@ -54,6 +54,6 @@ none_kept (x ∷ xs) = none_kept xs
 -- Where nobody fell, nothing is cancelled.
 pub nothing_cancelled : (fallen : Bool) (own : Order → Bool) (reason : Reason) (M : Market) → fallen ≡ false → ◌≡◌ {A = Told} (cancelling (λ o. fallen && own o) reason M) (record { market = M; events = [] })
 unfolding by_number
-nothing_cancelled fallen own reason M e =
+nothing_cancelled fell own reason M e =
     (λ k. cancelling (λ o. e k && own o) reason M)
     ∙ (let rows = fun_ext (λ s. fun_ext (λ i. all_kept (M.rows s i))) in let picked = none_kept (pending_orders M.rows) in λ k. record { market = with_rows M (rows k); events = map (cancelled reason) (by_number (picked k)) })

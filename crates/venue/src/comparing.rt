@@ -10,6 +10,7 @@ pub fn alike(one: &[Listed], other: &[Listed]) -> bool
     if one.len() != other.len() {
         return false;
     }
+    // By place: a rule of the project asks for the elements of one listing with their index beside the other.
     for (place, listed) in one.iter().enumerate() {
         if !shows_the_same(listed, &other[place]) {
             return false;

@@ -14,7 +14,7 @@ use market::members::Mode;
 use market::refusals::Refusal;
 
 /// The most that a deposit may come to, in half-rupees.
-pub const HIGHEST_DEPOSIT: u128 = 1_000_000_000_000;
+const HIGHEST_DEPOSIT: u128 = 1_000_000_000_000;
 
 impl<K: Keeper> Venue<K> {
     /// Adds to a member's deposit, and judges the member.

@@ -7,6 +7,9 @@ use crate::incoming::IncomingOrder;
 use market::events::{Cancellation, Event, Reason};
 
 /// The caller's list of events. Those that the call has told so far stand in its first places.
+///
+/// Each function that takes one ensures `same_list`, by which its owner knows that the places are still the caller's, and requires room
+/// for what it may tell: facts of two moments, or of list and venue together, which no type of its own could carry.
 #[derive(Drop)]
 pub(crate) struct EventList<'a> {
     pub(crate) places: &'a mut [Event],

@@ -1,5 +1,5 @@
 ghost use Rattle.std.specs.Prelude.{◌≡◌, ◌+◌, ◌<◌, ◌≤◌, min, true, length, Some};
-ghost use Rattle.market.specs.Meeting.{opposite, lowers_need, is_hindered};
+ghost use Rattle.market.specs.Meeting.{opposite, trade_of, lowers_need, is_hindered};
 ghost use Rattle.book.specs.Reads.{first_of};
 ghost use Rattle.venue.specs.Reads.{market_of};
 ghost use Rattle.venue.specs.Turns.{pending_count, meeting_at, after_first_fill, fill_first, SameOrder, Turned};
@@ -9,10 +9,10 @@ use crate::incoming::{IncomingOrder, opposite_of};
 use crate::state::Venue;
 use margin::keeper::Keeper;
 use margin::trade::record_trade;
-use market::events::{Event, Reason};
+use market::events::{Event, Reason, Trade};
 use market::members::Mode;
 use market::orders::NewOrder;
-use terms::{Order, Side};
+use terms::Order;
 
 impl<K: Keeper> Venue<K> {
     // Whether so many lots of an order would lower its member's need.
@@ -32,17 +32,23 @@ impl<K: Keeper> Venue<K> {
         self.members.mode(new.member) == Mode::Reduction && !self.lowers_need(new, lots)
     }
 
-    // The lots leave the pending order, and the keeper records both sides. Over a fresh keeper there is nothing to refuse.
-    fn trade(&mut self, new: &NewOrder, pending: &Order, lots: u16)
-        ensures { market_of K.Keeper.sheet self.new ≡ after_first_fill K.Keeper.REACH (market_of K.Keeper.sheet self.old) new.now pending.now lots }
+    // The trade: the lots leave the pending order, and the keeper records both sides. Over a fresh keeper there is nothing to refuse.
+    fn trade(&mut self, incoming: &IncomingOrder, pending: &Order, lots: u16) -> Trade
+        ensures market { market_of K.Keeper.sheet self.new ≡ after_first_fill K.Keeper.REACH (market_of K.Keeper.sheet self.old) incoming.now.order pending.now lots }
+        ensures trade { result ≡ trade_of incoming.now.number incoming.now.order pending.now lots }
     {
-        self.book.fill(opposite_of(new.side), new.instrument, lots);
-        let (buyer, seller) = match new.side {
-            Side::Bid => (new.member, pending.member),
-            Side::Offer => (pending.member, new.member),
-        };
+        let trade = incoming.trade_with(pending, lots);
+        let Trade {
+            buyer,
+            seller,
+            instrument,
+            ..
+        } = trade;
+        self.book
+            .fill(opposite_of(incoming.order.side), instrument, lots);
         let lots = u32::from(lots);
-        let _ = record_trade(&mut self.keeper, buyer, seller, new.instrument, lots);
+        let _ = record_trade(&mut self.keeper, buyer, seller, instrument, lots);
+        trade
     }
 
     // A fill: the trade; the placing member judged; if it fell, its rest cancelled after its pending orders; the other judged.
@@ -63,8 +69,8 @@ impl<K: Keeper> Venue<K> {
         ensures going { result ≡ true → 0 < incoming.new.rest }
     {
         let lots = incoming.rest.min(pending.lots);
-        self.trade(&incoming.order, pending, lots);
-        list.tell(Event::Traded(incoming.trade_with(pending, lots)));
+        let trade = self.trade(incoming, pending, lots);
+        list.tell(Event::Traded(trade));
         incoming.rest -= lots;
         if self.judge(incoming.order.member, list) {
             list.cancel_rest(incoming, Reason::TurnedToReduction);

@@ -3,8 +3,7 @@ ghost use Rattle.market.specs.declared.refusals.Refusal.TheVariants.{ListTooShor
 ghost use Rattle.market.specs.Grounds.{checked, ◌when◌, is_short, is_set_up, is_open};
 ghost use Rattle.venue.specs.Obeys.{is_phase};
 
-use crate::state::LIST_PLACES;
-use market::calls::Phase;
+use market::calls::{LIST_PLACES, Phase};
 use market::refusals::Refusal;
 
 // Grounds that several calls have in common.

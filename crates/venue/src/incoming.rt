@@ -5,7 +5,7 @@ use market::events::Trade;
 use market::orders::NewOrder;
 use terms::{Order, Side};
 
-/// A placed order on its way: the number that it was given, what was placed, and the lots that are left of it.
+/// An incoming order: the number that it was given, what was placed, and the lots that are left of it.
 #[derive(Clone, Copy)]
 pub(crate) struct IncomingOrder {
     pub(crate) number: u16,

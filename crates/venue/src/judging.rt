@@ -59,6 +59,7 @@ impl<K: Keeper> Venue<K> {
         ensures market { market_of K.Keeper.sheet self.new ≡ with_member (market_of K.Keeper.sheet self.old) member (judged_member (need K.Keeper.charge (market_of K.Keeper.sheet self.old) member) ((market_of K.Keeper.sheet self.old).members member)) }
         ensures fallen { result ≡ has_fallen K.Keeper.charge (market_of K.Keeper.sheet self.old) member }
     {
+        // By index: after `get_mut`, as tried, a proof does not see the row written back into the table.
         let m = usize::from(member);
         if m >= MEMBERS {
             return false;

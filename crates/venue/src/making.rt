@@ -6,9 +6,9 @@ ghost use Rattle.venue.specs.Obeys.{Obeys, as_answer};
 ghost use Rattle.venue.specs.Reads.{market_of};
 
 use crate::grounds::check_list;
-use crate::state::{LIST_PLACES, Venue};
+use crate::state::Venue;
 use margin::keeper::Keeper;
-use market::calls::{Answer, Call, ListingCounts};
+use market::calls::{Answer, Call, LIST_PLACES, ListingCounts};
 use market::events::Event;
 use market::orders::Listed;
 use market::refusals::Refusal;

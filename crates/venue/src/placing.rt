@@ -97,10 +97,11 @@ impl<K: Keeper> Venue<K> {
         ensures value { result ≡ pending_over_five_years (market_of K.Keeper.sheet self.now) member }
         ensures few { result < 300000000 }
     {
+        // A loop: in generic code a chain leaves the bound of its sum unproved, as tried for a keeper's charge. And by index, not by a
+        // zip with `0u8..`, of whose numbers a proof would have to say that they are the rows' places.
         let mut sum: u32 = 0;
         for (i, row) in self.instruments.rows.iter().enumerate() {
             if is_long_row(row) {
-                // There are 16 rows, so the cast loses nothing.
                 sum += self.book.pending(Part::Instrument(i as u8), member);
             }
         }

@@ -11,7 +11,7 @@ ghost use Rattle.venue.specs.Obeys.{Obeys, as_answer, Passes};
 ghost use Rattle.venue.specs.Reads.{market_of};
 
 use crate::grounds::check_phase;
-use crate::state::{HIGHEST_LOTS, INSTRUMENTS, MEMBERS, Table, Venue};
+use crate::state::{HIGHEST_FACTOR, HIGHEST_LOTS, INSTRUMENTS, MEMBERS, Table, Venue};
 use book::books::Book;
 use margin::keeper::Keeper;
 use market::calls::Phase;
@@ -87,7 +87,7 @@ impl<K: Keeper> Venue<K> {
         ensures { Passes (admit_grounds (market_of K.Keeper.sheet self.now) member benchmarks limits.now) (admitted benchmarks limits.now).benchmarks result }
     {
         check_phase(self.phase, Phase::SetUp)?;
-        if member > 31 {
+        if usize::from(member) >= MEMBERS {
             return Err(Refusal::NoSuchMember);
         }
         if self.members.admitted(member).is_ok() {
@@ -125,7 +125,7 @@ impl<K: Keeper> Venue<K> {
         ensures { Passes (define_grounds (market_of K.Keeper.sheet self.now) instrument benchmark group factor) (record { benchmark = (defined benchmark group).benchmark; group = (defined benchmark group).group }) result }
     {
         check_phase(self.phase, Phase::SetUp)?;
-        if instrument > 15 {
+        if usize::from(instrument) >= INSTRUMENTS {
             return Err(Refusal::NoSuchInstrument);
         }
         if self.instruments.defined(instrument).is_ok() {
@@ -133,7 +133,7 @@ impl<K: Keeper> Venue<K> {
         }
         let benchmark = Benchmark::try_from(benchmark)?;
         let group = TenorGroup::try_from(group)?;
-        if factor == 0 || factor > 100_000 {
+        if !(1..=HIGHEST_FACTOR).contains(&factor) {
             return Err(Refusal::ValueOutOfRange);
         }
         Ok(Instrument { benchmark, group })

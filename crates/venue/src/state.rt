@@ -9,8 +9,8 @@ pub(crate) const MEMBERS: usize = 32;
 /// Instruments are 0 to 15.
 pub(crate) const INSTRUMENTS: usize = 16;
 
-/// How many places a list for events or for a listing has to have.
-pub const LIST_PLACES: usize = 257;
+/// Factors are from 1 to this, in rupees a lot.
+pub(crate) const HIGHEST_FACTOR: u32 = 100_000;
 
 /// The most lots of one order, whoever places it.
 pub(crate) const HIGHEST_LOTS: u16 = 1_000;

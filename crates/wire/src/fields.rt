@@ -58,7 +58,8 @@ impl Fields {
         }
     }
 
-    // A cast by `as`, here and in `request`, is proved to lose nothing: each value is within its field's width.
+    // A cast by `as`, here and in `request`, is proved to lose nothing: each value is within its field's width. `try_from` would add a
+    // refusal that cannot happen.
     fn place(&self) -> Request
         ensures { result ≡ place_of self.now }
     {
@@ -124,6 +125,7 @@ fn signed_rate(bits: u64) -> i32
     requires { bits < 2 ^ 20 }
     ensures { result ≡ rate_of bits }
 {
+    // By `as`, here and back: proved to lose nothing, as above.
     let rate = bits as i32;
     if rate < RATES / 2 { rate } else { rate - RATES }
 }

@@ -4,7 +4,7 @@ ghost use Rattle.wire.specs.OneBits.{IsOneBit, side_one_bit, term_one_bit};
 
 use terms::{Side, Term};
 
-/// A choice of two, which a message has as one bit.
+/// A choice of two, which a message has as one bit. Each impl names the cases of its own type, in a line each way.
 pub(crate) trait OneBit {
     ghost bit_of: { Self → ℕ };
 

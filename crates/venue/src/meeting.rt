@@ -13,7 +13,8 @@ use market::events::Reason;
 use terms::Term;
 
 impl<K: Keeper> Venue<K> {
-    // The placed order comes to the first opposite order of its instrument. Answers whether it goes on to meet.
+    // The placed order comes to the first opposite order of its instrument. Answers whether it goes on to meet. That some lots are left is
+    // true of it here, and not once a turn has ended: a premise, and no invariant of its type.
     fn turn(&mut self, incoming: &mut IncomingOrder, list: &mut EventList<'_>) -> bool
         requires some_left { 0 < incoming.old.rest }
         requires room_for_events { list.old.told + pending_count (market_of K.Keeper.sheet self.old) + 1 ≤ length list.old.places.now }

@@ -158,6 +158,12 @@ pub numbers : Numbers
 unfolding step sum_below sum_over joined_below by_number repeated
 numbers =
     record {
+      benchmarks = refl;
+      benchmarks_read = refl;
+      groups = refl;
+      groups_read = refl;
+      opted_benchmarks = refl;
+      opted_benchmarks_read = refl;
       reasons = refl;
       refusals_of_messages = refl;
       refusals_up_to_the_deposit = refl;

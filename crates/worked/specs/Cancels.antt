@@ -1,5 +1,5 @@
--- Cancels that are asked for, the close, and the numbers of reasons and refusals.
-use Rattle.std.specs.Prelude.{◌≡◌, List, [], ◌∷◌, map, Err}
+-- Cancels that are asked for, the close, and the numbers of the words that have one.
+use Rattle.std.specs.Prelude.{◌≡◌, List, [], ◌∷◌, map, Err, Some, None}
 use Rattle.terms.specs.declared.Side.TheVariants.{Bid, Offer}
 use Rattle.terms.specs.declared.Term.TheVariants.{Day}
 use Rattle.wire.specs.declared.request.MessageRefusal.TheVariants.{NotEightBytes, NotLegal}
@@ -7,8 +7,11 @@ use Rattle.wire.specs.Messages.{refusal_number as message_refusal_number}
 use Rattle.market.specs.declared.calls.Call.{Call}
 use Rattle.market.specs.declared.calls.Call.TheVariants.{Cancel, CancelAll, Close}
 use Rattle.market.specs.declared.events.Reason.TheVariants.{Asked, NotMetAtOnce, OwnOrder, TurnedToReduction, NeedNotLowered as NotLowered, Closing}
+use Rattle.market.specs.declared.instruments.Benchmark.TheVariants.{Mibor, Mmfor}
+use Rattle.market.specs.declared.instruments.TenorGroup.TheVariants.{UpToOneYear, UpToFiveYears, OverFiveYears}
+use Rattle.market.specs.declared.members.Benchmarks.TheVariants.{Mibor as OnlyMibor, Mmfor as OnlyMmfor, Both}
 use Rattle.market.specs.declared.refusals.Refusal.TheVariants.{ListTooShort, WrongPhase, NoSuchMember, NoSuchInstrument, AlreadyThere, ValueOutOfRange, AmountOutOfRange, DepositNeeded, BenchmarkNotOpted, LotsOutOfRange, RateOutOfRange, AccumulatedLimitPassed, OverFiveYearsLimitPassed, ReachPassed, DayOrderInReduction, NeedNotLowered, NoSuchOrder, BookFull, NumbersUsedUp}
-use Rattle.market.specs.Numbers.{reason_number, refusal_number}
+use Rattle.market.specs.Numbers.{benchmark_number, benchmark_numbered, group_number, group_numbered, benchmarks_number, benchmarks_numbered, reason_number, refusal_number}
 use Rattle.market.specs.Markets.{Market}
 use Rattle.worked.specs.Venues.{member_for_20_lots, instrument, venue, pending_in_all, ◌by◌, pending, order_in, run, left_by, answers, told, cancelled, cancel}
 
@@ -56,6 +59,16 @@ pub record Cancels : Type 0 where
   pub none_left_by_close : pending_in_all (left_by six_pending (Close ∷ [])) ≡ []
 
 pub record Numbers : Type 0 where
+  pub benchmarks : map benchmark_number (Mibor ∷ Mmfor ∷ []) ≡ 0 ∷ 1 ∷ []
+  pub benchmarks_read : map benchmark_numbered (0 ∷ 1 ∷ 2 ∷ []) ≡ Some Mibor ∷ Some Mmfor ∷ None ∷ []
+  pub groups : map group_number (UpToOneYear ∷ UpToFiveYears ∷ OverFiveYears ∷ []) ≡ 0 ∷ 1 ∷ 2 ∷ []
+  pub groups_read :
+      map group_numbered (0 ∷ 1 ∷ 2 ∷ 3 ∷ []) ≡ Some UpToOneYear ∷ Some UpToFiveYears ∷ Some OverFiveYears ∷ None ∷ []
+  -- What a member opts for is numbered from 1, unlike the benchmark of an instrument.
+  pub opted_benchmarks : map benchmarks_number (OnlyMibor ∷ OnlyMmfor ∷ Both ∷ []) ≡ 1 ∷ 2 ∷ 3 ∷ []
+  pub opted_benchmarks_read :
+      map benchmarks_numbered (0 ∷ 1 ∷ 2 ∷ 3 ∷ 4 ∷ [])
+      ≡ None ∷ Some OnlyMibor ∷ Some OnlyMmfor ∷ Some Both ∷ None ∷ []
   pub reasons :
       map reason_number (Asked ∷ NotMetAtOnce ∷ OwnOrder ∷ TurnedToReduction ∷ NotLowered ∷ Closing ∷ [])
       ≡ 1 ∷ 2 ∷ 3 ∷ 4 ∷ 5 ∷ 6 ∷ []

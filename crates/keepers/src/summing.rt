@@ -24,8 +24,8 @@ pub struct SummingKeeper<T> {
 impl<T: Tariff + Default> SummingKeeper<T> {
     /// A keeper with no factor and no lots.
     ///
-    /// Which charge the shipped keepers have is said here too, since every one of them begins here and a name for a type, as `Reckoner`,
-    /// has no contract of its own.
+    /// Which charge `Reckoner` and `GrossKeeper` have is said here too, since both begin here and a name for a type has no contract of
+    /// its own.
     pub fn fresh() -> Self
         ensures fresh { sheet_of result.table ≡ fresh_sheet }
         ensures reckoner { ⟦<Reckoner as Keeper>⟧.charge ≡ summed standard_amount }

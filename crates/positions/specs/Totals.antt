@@ -1,9 +1,8 @@
 -- A member's two totals in one instrument, by side.
-use Rattle.std.specs.Prelude.{◌≡◌, ℕ, List}
+use Rattle.std.specs.Prelude.{ℕ, List}
 use Rattle.terms.specs.declared.Side.{Side}
 use Rattle.terms.specs.declared.Side.TheVariants.{Bid, Offer}
 use Rattle.terms.specs.Tables.{column}
-use Rattle.margin.specs.Sheets.{Totals, raised}
 use Rattle.positions.specs.declared.totals.MemberLots.{MemberLots}
 
 abbrev pub total_on : MemberLots → Side → ℕ
@@ -13,7 +12,3 @@ total_on lots Offer = lots.sold
 -- The lots of all members, by side and member.
 abbrev pub totals_of : List MemberLots → Side → ℕ → ℕ
 totals_of members side = column 32 members (λ lots. total_on lots side)
-
--- One member's two totals with some lots more on a side.
-abbrev pub IsRaised : Totals → Side → ℕ → ℕ → MemberLots → Type 0
-IsRaised totals side member q lots = (u : Side) → total_on lots u ≡ raised totals side member q u member

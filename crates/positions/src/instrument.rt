@@ -1,8 +1,6 @@
 ghost use Rattle.std.specs.Prelude.{◌≡◌, ◌<◌, ◌≤◌, ℕ, is_ok, IfOk, if◌then◌else◌};
-ghost use Rattle.terms.specs.declared.Side.{Side};
 ghost use Rattle.margin.specs.Sheets.{no_lots, raised};
 ghost use Rattle.positions.specs.Reads.{lots_in, can_take_factor, can_grow, IsPosition};
-ghost use Rattle.positions.specs.Totals.{total_on, IsRaised};
 
 use crate::lots::{HIGHEST_FACTOR, InstrumentLots, MEMBERS, Position};
 use crate::places::MemberPlace;
@@ -36,8 +34,7 @@ impl<const REACH: u32> InstrumentLots<REACH> {
     pub(crate) fn position(&self, member: MemberPlace) -> Position
         ensures { IsPosition self.now.factor (lots_in self.now) member.number result }
     {
-        // One by one, here and in `put`: copied whole the two totals are moved as one number and taken apart again, which costs a trade
-        // a third more time.
+        // One by one, here and in `put`: copied whole the two totals are moved as one number and taken apart again, which costs time.
         let MemberLots { bought, sold } = self.members[member.number];
         Position {
             factor: self.factor,
@@ -86,18 +83,17 @@ impl<const REACH: u32> InstrumentLots<REACH> {
         ensures lots { lots_in self.new ≡ (if can_grow REACH self.old member.number side lots then raised (lots_in self.old) side member.number lots else lots_in self.old) }
     {
         let position = self.position_with(member, side, lots)?;
-        self.put(member, position.lots);
+        self.put(member, side, position.lots.on(side));
         Ok(())
     }
 
-    // Writes a member's two totals, of an instrument that has a factor.
-    fn put(&mut self, member: MemberPlace, held: MemberLots)
-        requires within { (side : Side) → total_on held side ≤ REACH }
+    // Writes one of a member's totals, of an instrument that has a factor.
+    fn put(&mut self, member: MemberPlace, side: Side, total: u32)
+        requires within { total ≤ REACH }
         requires has_factor { 0 < self.old.factor }
         ensures factor { self.new.factor ≡ self.old.factor }
-        ensures lots { (side : Side) (lots : ℕ) → IsRaised (lots_in self.old) side member.number lots held → lots_in self.new ≡ raised (lots_in self.old) side member.number lots }
+        ensures lots { (lots : ℕ) → total ≡ raised (lots_in self.old) side member.number lots side member.number → lots_in self.new ≡ raised (lots_in self.old) side member.number lots }
     {
-        let MemberLots { bought, sold } = held;
-        self.members[member.number] = MemberLots { bought, sold };
+        self.members[member.number] = self.members[member.number].with_total(side, total);
     }
 }

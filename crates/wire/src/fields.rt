@@ -45,7 +45,7 @@ impl Fields {
         ensures { result ≡ request_of self.now }
     {
         let kind = Kind::try_from(self.code)?;
-        // A place first, and the fields that a cancel does not use in one test for both cancels: so a place is read without these fields.
+        // A place first; then the fields that no cancel uses, in one test for both cancels, to which a legal place does not come.
         if kind == Kind::Place && self.spare == 0 {
             return Ok(self.place());
         }

@@ -34,7 +34,7 @@ impl<const REACH: u32> InstrumentLots<REACH> {
     pub(crate) fn position(&self, member: MemberPlace) -> Position
         ensures { IsPosition self.now.factor (lots_in self.now) member.number result }
     {
-        // One by one, here and in `put`: copied whole the two totals are moved as one number and taken apart again, which costs time.
+        // One by one: copied whole, the two totals are moved as one number and taken apart again, which costs time.
         let MemberLots { bought, sold } = self.members[member.number];
         Position {
             factor: self.factor,

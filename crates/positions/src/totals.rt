@@ -22,7 +22,7 @@ impl MemberLots {
         }
     }
 
-    // Field by field, as below: `..self` moves both totals as one number and takes them apart again, which costs time.
+    // Each total on its own, as `InstrumentLots::position` reads them, for the reason that stands there.
     pub(crate) fn with_total(self, side: Side, total: u32) -> Self
         ensures { (s : Side) → total_on result s ≡ cond (same_side side s) total (total_on self s) }
     {

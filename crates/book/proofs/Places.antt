@@ -1,15 +1,15 @@
 -- The book's entries, the first of a row among them, and what a fill makes of them.
-use Rattle.std.proofs.Common.{◌≡◌, ℕ, zero, suc, ◌+◌, ◌-◌, ◌<◌, ◌≤◌, Bool, true, false, cond, not, ltb, List, [], ◌∷◌, ◌++◌, map, length, get_or, take, drop, set, Some, None, filter, sym, refl, ap, ◌∙◌, add-one, arith}
+use Rattle.std.proofs.Common.{◌≡◌, ℕ, zero, suc, ◌+◌, ◌-◌, ◌<◌, ◌≤◌, Bool, true, false, cond, not, ltb, leb, List, [], ◌∷◌, ◌++◌, map, length, get_or, take, drop, set, Some, None, filter, sym, refl, ap, ◌∙◌, add-one, arith, length-append, length-drop, length-take}
 use lib.ListN.{length-map}
 use Rattle.std.specs.List.{position, position_or_len, find}
 use Rattle.std.proofs.lemmas.Bool.Decides.{nat_tests}
 use Rattle.std.specs.Option.{option_map}
-use Rattle.std.proofs.lemmas.List.{take-append-drop, set_split, drop_more}
+use Rattle.std.proofs.lemmas.List.{take_at, take_all, take-append-drop, set_split, drop_more}
 use Rattle.std.proofs.lemmas.List.Elements.{filter_more}
 use Rattle.std.proofs.lemmas.List.Quantifiers.{position-Some}
-use Rattle.std.proofs.lemmas.Bool.{cond-false, cond_both, ltb-true, ltb-false}
+use Rattle.std.proofs.lemmas.Bool.{cond-true, cond-false, lt-ltb, le-leb, and_from, cond_both, ltb-true, ltb-false}
 use Rattle.terms.specs.declared.Side.{Side}
-use Rattle.row.specs.Rows.{inserted, without}
+use Rattle.row.specs.Rows.{inserted, without, after_remove}
 use Rattle.market.specs.Markets.{put_row, pending_orders}
 use Rattle.book.specs.declared.books.Book.{Book}
 use Rattle.book.specs.declared.entry.Entry.{Entry}
@@ -20,6 +20,16 @@ use Rattle.book.proofs.Rows.{pending_entries, rows_part_filled, rows_whole_fille
 pub length_inserted : {X : Type 0} (before : X → X → Bool) (e : X) (xs : List X) → length (inserted before e xs) ≡ length xs + 1
 length_inserted before e [] = refl
 length_inserted before e (x ∷ xs) = cond_both (before e x) (e ∷ (x ∷ xs)) (x ∷ inserted before e xs) (λ z. length z ≡ length (x ∷ xs) + 1) (λ _. omega arith) (λ _. omega (arith, length_inserted before e xs))
+
+length_without : {X : Type 0} (place : ℕ) (xs : List X) → place < length xs → length (without place xs) ≡ length xs - 1
+length_without place xs l = let a = length-append (take place xs) (drop (place + 1) xs) in let b = length-take place xs in let c = length-drop (place + 1) xs in omega arith
+
+-- What a remove of the row leaves in front of the last place.
+pub take_removed : {X : Type 0} (place : ℕ) (xs : List X) → place < length xs → take (length xs - 1) (after_remove (length xs) place xs) ≡ without place xs
+take_removed place xs l =
+    let less = length_without place xs l in
+    ap (take (length xs - 1)) (cond-true _ _ xs (and_from (leb (length xs) (length xs)) (ltb place (length xs)) (le-leb (length xs) (length xs) (omega arith)) (lt-ltb place (length xs) l)) ∙ ap (λ ys. without place ys ++ drop (length xs - 1) xs) (take_all (length xs) xs (omega arith)))
+    ∙ take_at (without place xs) (drop (length xs - 1) xs) (length xs - 1) (omega arith)
 
 -- A list around one of its places.
 around : {X : Type 0} (place : ℕ) (xs : List X) (d : X) → place < length xs → xs ≡ take place xs ++ (get_or xs place d ∷ drop (place + 1) xs)

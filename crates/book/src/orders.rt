@@ -9,7 +9,7 @@ ghost use Rattle.book.specs.Reads.{order_of, entries_of, rows_of, stands_at, fir
 
 use crate::books::{Book, BookRefusal, PLACES};
 use crate::entry::Entry;
-use crate::ordered::put_in_order;
+use crate::ordered::{put_in_order, take_out};
 use arrayvec::ArrayVec;
 use terms::{Order, Side};
 
@@ -84,7 +84,7 @@ impl Book {
         if lots < self.entries[place].order.lots {
             self.entries[place].order.lots -= lots;
         } else {
-            self.entries.remove(place);
+            take_out(&mut self.entries, place);
         }
     }
 }

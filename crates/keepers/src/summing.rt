@@ -1,11 +1,13 @@
 ghost use Rattle.std.specs.Prelude.{◌≡◌};
 ghost use Rattle.margin.specs.Sheets.{fresh_sheet};
-ghost use Rattle.positions.specs.Charges.{summed};
+ghost use Rattle.positions.specs.Charges.{summed, standard_amount, gross_amount};
 ghost use Rattle.positions.specs.Reads.{sheet_of};
 ghost use Rattle.positions.proofs.Sheets.{sheet_lawful};
 ghost use Rattle.positions.proofs.Sums.{summed_none, summed_rise};
 ghost use Rattle.std.proofs.Common.{rules};
 
+use crate::gross::GrossKeeper;
+use crate::reckoner::Reckoner;
 use margin::keeper::Keeper;
 use margin::refusal::KeeperRefusal;
 use positions::lots::LotsTable;
@@ -21,8 +23,13 @@ pub struct SummingKeeper<T> {
 
 impl<T: Tariff + Default> SummingKeeper<T> {
     /// A keeper with no factor and no lots.
+    ///
+    /// Which charge `Reckoner` and `GrossKeeper` have is said here too, since both begin here and a name for a type has no contract of
+    /// its own.
     pub fn fresh() -> Self
-        ensures { sheet_of result.table ≡ fresh_sheet }
+        ensures fresh { sheet_of result.table ≡ fresh_sheet }
+        ensures reckoner { ⟦<Reckoner as Keeper>⟧.charge ≡ summed standard_amount }
+        ensures gross_keeper { ⟦<GrossKeeper as Keeper>⟧.charge ≡ summed gross_amount }
     {
         SummingKeeper {
             table: LotsTable::fresh(),

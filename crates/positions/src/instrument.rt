@@ -1,4 +1,4 @@
-ghost use Rattle.std.specs.Prelude.{◌≡◌, is_ok, IfOk, if◌then◌else◌};
+ghost use Rattle.std.specs.Prelude.{◌≡◌, ◌<◌, ◌≤◌, ℕ, is_ok, IfOk, if◌then◌else◌};
 ghost use Rattle.margin.specs.Sheets.{no_lots, raised};
 ghost use Rattle.positions.specs.Reads.{lots_in, can_take_factor, can_grow, IsPosition};
 
@@ -34,9 +34,11 @@ impl<const REACH: u32> InstrumentLots<REACH> {
     pub(crate) fn position(&self, member: MemberPlace) -> Position
         ensures { IsPosition self.now.factor (lots_in self.now) member.number result }
     {
+        // One by one: copied whole, the two totals are moved as one number and taken apart again, which costs time.
+        let MemberLots { bought, sold } = self.members[member.number];
         Position {
             factor: self.factor,
-            lots: self.members[member.number],
+            lots: MemberLots { bought, sold },
         }
     }
 
@@ -81,7 +83,17 @@ impl<const REACH: u32> InstrumentLots<REACH> {
         ensures lots { lots_in self.new ≡ (if can_grow REACH self.old member.number side lots then raised (lots_in self.old) side member.number lots else lots_in self.old) }
     {
         let position = self.position_with(member, side, lots)?;
-        self.members[member.number] = position.lots;
+        self.put(member, side, position.lots.on(side));
         Ok(())
+    }
+
+    // Writes one of a member's totals, of an instrument that has a factor.
+    fn put(&mut self, member: MemberPlace, side: Side, total: u32)
+        requires within { total ≤ REACH }
+        requires has_factor { 0 < self.old.factor }
+        ensures factor { self.new.factor ≡ self.old.factor }
+        ensures lots { (lots : ℕ) → total ≡ raised (lots_in self.old) side member.number lots side member.number → lots_in self.new ≡ raised (lots_in self.old) side member.number lots }
+    {
+        self.members[member.number] = self.members[member.number].with_total(side, total);
     }
 }

@@ -22,6 +22,22 @@ impl MemberLots {
         }
     }
 
+    // Each total on its own, as `InstrumentLots::position` reads them, for the reason that stands there.
+    pub(crate) fn with_total(self, side: Side, total: u32) -> Self
+        ensures { (s : Side) → total_on result s ≡ cond (same_side side s) total (total_on self s) }
+    {
+        match side {
+            Side::Bid => MemberLots {
+                bought: total,
+                sold: self.sold,
+            },
+            Side::Offer => MemberLots {
+                bought: self.bought,
+                sold: total,
+            },
+        }
+    }
+
     pub(crate) fn with_more(self, side: Side, lots: u32) -> Self
         requires { total_on self side + lots < 2 ^ 32 }
         ensures { (s : Side) → total_on result s ≡ total_on self s + cond (same_side side s) lots 0 }

@@ -18,8 +18,11 @@ use venue::state::Venue;
 /// The bytes of 8,000 messages of 8 bytes. Later messages are not read.
 const MOST_BYTES: u64 = 64_000;
 
-/// So many bytes are written at a time.
+/// Lines are written once they are so many bytes, and whole: no block ends within a line.
 const BLOCK: usize = 65_536;
+
+/// More bytes than the lines of one message have: 257 events of at most 25 bytes, and the answer.
+const LINES: usize = 8_192;
 
 fn submit<W: Write>(
     venue: &mut Venue<Reckoner>,
@@ -36,14 +39,17 @@ fn submit<W: Write>(
     }
 }
 
-fn submit_all<W: Write>(
+fn submit_all<W: Write + Drop>(
     venue: &mut Venue<Reckoner>,
     messages: &[u8],
     events: &mut [Event],
-    output: &mut W,
+    output: &mut BufWriter<W>,
 ) -> io::Result<()> {
     for message in messages.chunks(8) {
         submit(venue, message, events, output)?;
+        if output.buffer().len() >= BLOCK {
+            output.flush()?;
+        }
     }
     output.flush()
 }
@@ -61,6 +67,9 @@ fn main(rt: HostRuntime) -> io::Result<()> {
     }
     let messages = read_messages(&rt)?;
     let mut events = [BLANK_EVENT; LIST_PLACES];
-    let mut output = BufWriter::with_capacity(rt.alloc(), BLOCK, io::writer(&rt))?;
-    submit_all(&mut venue, messages.as_slice(), &mut events, &mut output)
+    let mut output = BufWriter::with_capacity(rt.alloc(), BLOCK + LINES, io::writer(&rt))?;
+    let done = submit_all(&mut venue, messages.as_slice(), &mut events, &mut output);
+    // Taken apart, since dropped it would write once more what a failed write left.
+    output.into_parts();
+    done
 }

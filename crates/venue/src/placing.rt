@@ -133,7 +133,8 @@ impl<K: Keeper> Venue<K> {
         let pending = self
             .book
             .pending(Part::Row(new.side, new.instrument), new.member);
-        if u64::from(held) + u64::from(pending) + u64::from(lots) > u64::from(K::REACH) {
+        // By the call and not by `K::REACH`, so that the call's contract is about what is tested here.
+        if u64::from(held) + u64::from(pending) + u64::from(lots) > u64::from(K::highest_total()) {
             return Err(Refusal::ReachPassed);
         }
         Ok(())

@@ -1,4 +1,4 @@
-use Rattle.std.proofs.Common.{◌-◌, ◌++◌, get_or, take, drop, set, length, sym, ap, ◌∙◌, add-one, length-set}
+use Rattle.std.proofs.Common.{◌-◌, get_or, set, length, ap, ◌∙◌, length-set}
 use Rattle.arrayvec.proofs.ArrayVecLemmas.{items-with_items}
 use Rattle.book.specs.Reads.{blank_entry, entries_of, entry_with_lots}
 use Rattle.book.specs.Standing.{stands}
@@ -20,5 +20,5 @@ pub invariant_of-self-else-lots-deref-clause-standing : goal.invariant_of-self-e
 invariant_of-self-else-lots-deref-clause-standing c =
     let book = c.args.self.now in
     let entries = entries_of book in
-    ap stands (c.remove.ensures.items ∙ ap (λ n. take c.args.place entries ++ drop n entries) (sym (add-one c.args.place)))
+    ap stands c.take_out.ensures
     ∙ stands_from _ (stands_without c.args.place entries (book_stands book))

@@ -44,15 +44,15 @@ impl Fields {
     pub(crate) fn request(&self) -> Result<Request, MessageRefusal>
         ensures { result ≡ request_of self.now }
     {
-        let kind = Kind::try_from(self.code)?;
-        // A place first; then the fields that no cancel uses, in one test for both cancels, to which a legal place does not come.
-        if kind == Kind::Place && self.spare == 0 {
+        // A place is told by its code, and a kind made only after the test that both cancels share, so that no call has its kind
+        // tested twice. The sum is 0 if each of the fields that no cancel uses is 0.
+        if self.code == u64::from(Kind::Place) && self.spare == 0 {
             return Ok(self.place());
         }
-        if [self.instrument, self.side, self.term, self.rate, self.spare] != [0; 5] {
+        if self.instrument + self.side + self.term + self.rate + self.spare != 0 {
             return Err(MessageRefusal::NotLegal);
         }
-        match kind {
+        match Kind::try_from(self.code)? {
             Kind::Cancel => Ok(Request::Cancel {
                 member: self.member as u8,
                 number: self.lots as u16,

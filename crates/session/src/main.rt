@@ -10,7 +10,7 @@ use crate::set_up::set_up;
 use keepers::reckoner::Reckoner;
 use market::calls::LIST_PLACES;
 use market::events::{BLANK_EVENT, Event};
-use std::alloc::Global;
+use std::alloc::{AllocError, Global};
 use std::io;
 use std::io::{BufWriter, Read, Write};
 use venue::state::Venue;
@@ -24,18 +24,18 @@ const BLOCK: usize = 65_536;
 /// More bytes than the lines of one message have: 257 events of at most 25 bytes, and the answer.
 const LINES: usize = 8_192;
 
-fn submit<W: Write>(
+fn submit(
     venue: &mut Venue<Reckoner>,
     message: &[u8],
     events: &mut [Event],
-    output: &mut W,
-) -> io::Result<()> {
+    lines: &mut String,
+) -> Result<(), AllocError> {
     match venue.submit(message, events) {
         Ok(answer) => {
-            print_events(output, events, answer.events_told())?;
-            print_answer(output, &answer)
+            print_events(lines, events, answer.events_told())?;
+            print_answer(lines, &answer)
         }
-        Err(fault) => writeln!(output, "R {}", u8::from(fault)),
+        Err(fault) => writeln!(lines, "R {}", u8::from(fault)),
     }
 }
 
@@ -43,10 +43,14 @@ fn submit_all<W: Write + Drop>(
     venue: &mut Venue<Reckoner>,
     messages: &[u8],
     events: &mut [Event],
+    lines: &mut String,
     output: &mut BufWriter<W>,
 ) -> io::Result<()> {
     for message in messages.chunks(8) {
-        submit(venue, message, events, output)?;
+        submit(venue, message, events, lines)?;
+        // At once: a line written piece by piece pays for the buffer's tests with each number in it.
+        output.write_all(lines.as_bytes())?;
+        lines.clear();
         if output.buffer().len() >= BLOCK {
             output.flush()?;
         }
@@ -68,7 +72,14 @@ fn main(rt: HostRuntime) -> io::Result<()> {
     let messages = read_messages(&rt)?;
     let mut events = [BLANK_EVENT; LIST_PLACES];
     let mut output = BufWriter::with_capacity(rt.alloc(), BLOCK + LINES, io::writer(&rt))?;
-    let done = submit_all(&mut venue, messages.as_slice(), &mut events, &mut output);
+    let mut lines = String::new(rt.alloc());
+    let done = submit_all(
+        &mut venue,
+        messages.as_slice(),
+        &mut events,
+        &mut lines,
+        &mut output,
+    );
     // Taken apart, since dropped it would write once more what a failed write left.
     output.into_parts();
     done

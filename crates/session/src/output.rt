@@ -1,17 +1,16 @@
 use market::calls::Answer;
 use market::events::Event;
-use std::io;
-use std::io::Write;
+use std::alloc::{AllocError, Global};
 
-fn print_event<W: Write>(output: &mut W, event: &Event) -> io::Result<()> {
+fn print_event(lines: &mut String, event: &Event) -> Result<(), AllocError> {
     match event {
         Event::Traded(trade) => writeln!(
-            output,
+            lines,
             "T {} {} {} {} {}",
             trade.instrument, trade.buyer, trade.seller, trade.rate, trade.lots
         ),
         Event::Cancelled(cancel) => writeln!(
-            output,
+            lines,
             "C {} {} {} {}",
             cancel.number,
             cancel.member,
@@ -21,23 +20,23 @@ fn print_event<W: Write>(output: &mut W, event: &Event) -> io::Result<()> {
     }
 }
 
-pub(crate) fn print_events<W: Write>(
-    output: &mut W,
+pub(crate) fn print_events(
+    lines: &mut String,
     events: &[Event],
     count: usize,
-) -> io::Result<()> {
+) -> Result<(), AllocError> {
     // By `take`: the count of an answer is not proved here to be within the list.
     for event in events.iter().take(count) {
-        print_event(output, event)?;
+        print_event(lines, event)?;
     }
     Ok(())
 }
 
 /// The number of a placed order, and 0 for a cancel.
-pub(crate) fn print_answer<W: Write>(output: &mut W, answer: &Answer) -> io::Result<()> {
+pub(crate) fn print_answer(lines: &mut String, answer: &Answer) -> Result<(), AllocError> {
     let number = match answer {
         Answer::Placed(placed) => placed.number,
         _ => 0,
     };
-    writeln!(output, "A {number}")
+    writeln!(lines, "A {number}")
 }

@@ -45,7 +45,7 @@ impl Fields {
         ensures { result ≡ request_of self.now }
     {
         // A place is told by its code, and a kind made only after the test that both cancels share, so that no call has its kind
-        // tested twice. The sum is 0 if each of the fields that no cancel uses is 0.
+        // tested twice. The sum, which does not overflow, is 0 only if each of the fields that no cancel uses is 0.
         if self.code == u64::from(Kind::Place) && self.spare == 0 {
             return Ok(self.place());
         }
